@@ -1,0 +1,5 @@
+pub mod host_calls;
+pub mod marks;
+
+pub use host_calls::CheckHostHost;
+pub use marks::CheckHost;

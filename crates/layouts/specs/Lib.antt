@@ -1,0 +1,3 @@
+pub mod Layouts
+pub mod Tagged
+pub mod Split
