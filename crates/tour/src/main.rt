@@ -1,5 +1,6 @@
 mod actions;
 mod makers;
+mod tariff;
 mod zones;
 
 use actions::show;
@@ -13,12 +14,16 @@ use makers::try_check;
 use makers::try_layer;
 use makers::try_table;
 use memory::Host;
+use model::Answer;
 use small_pages::SmallPages;
 use small_pages::SmallPagesHost;
 use std::alloc::Global;
 use std::error::AnyError;
 use table_host::TableHost;
 use table_host::TableHostHost;
+use tariff::CALLS;
+use tariff::compare_tariff;
+use tariff::show_tariff;
 
 // The frames of the tour's table host, page by page.
 const FRAMES: [u32; 8] = [7, 6, 5, 4, 3, 2, 1, 0];
@@ -82,14 +87,68 @@ fn show_refusals(rt: &impl Print, heap: Global) -> Result<(), AnyError> {
     Ok(())
 }
 
+fn table_host(heap: Global) -> Result<TableHost, AnyError> {
+    match TableHost::make(words(heap, 256)?, &FRAMES, 8, 32) {
+        Ok(host) => Ok(host),
+        Err(_) => Err("no table host".into()),
+    }
+}
+
+fn pile(heap: Global) -> Result<SmallPages<SmallPages<TableHost>>, AnyError> {
+    let Ok(base) = TableHost::make(words(heap, 256)?, &[1, 0], 2, 128) else {
+        return Err("no table host".into());
+    };
+    layer(layer(base, 2)?, 2)
+}
+
+// A tariff on heaps over every kind of host, in both layouts.
+fn show_heaps(rt: &impl Print, heap: Global) -> Result<(), AnyError> {
+    let mut answers = [Answer::Done; CALLS];
+    println!(rt, "a tariff on a heap over the check host, layout 1")?;
+    show_tariff(rt, check_host(heap, 8, 32)?, Tagged, &mut answers)?;
+    compare_tariff(
+        rt,
+        "check host, layout 2",
+        check_host(heap, 8, 32)?,
+        Split,
+        &answers,
+    )?;
+    compare_tariff(
+        rt,
+        "table host, layout 1",
+        table_host(heap)?,
+        Tagged,
+        &answers,
+    )?;
+    compare_tariff(
+        rt,
+        "table host, layout 2",
+        table_host(heap)?,
+        Split,
+        &answers,
+    )?;
+    compare_tariff(
+        rt,
+        "small pages, layout 1",
+        layer(check_host(heap, 4, 64)?, 2)?,
+        Tagged,
+        &answers,
+    )?;
+    compare_tariff(
+        rt,
+        "a pile of small pages, layout 2",
+        pile(heap)?,
+        Split,
+        &answers,
+    )
+}
+
 fn main(rt: LibcRuntime) -> Result<(), AnyError> {
     let heap = rt.alloc();
     show_refusals(&rt, heap)?;
     let mut check = check_host(heap, 8, 32)?;
     both(&rt, "check host", &mut check)?;
-    let Ok(mut table) = TableHost::make(words(heap, 256)?, &FRAMES, 8, 32) else {
-        return Err("no table host".into());
-    };
+    let mut table = table_host(heap)?;
     both(&rt, "table host", &mut table)?;
     let mut small = layer(check_host(heap, 4, 64)?, 2)?;
     both(
@@ -97,13 +156,11 @@ fn main(rt: LibcRuntime) -> Result<(), AnyError> {
         "small pages, two of each page of a check host",
         &mut small,
     )?;
-    let Ok(base) = TableHost::make(words(heap, 256)?, &[1, 0], 2, 128) else {
-        return Err("no table host".into());
-    };
-    let mut pile = layer(layer(base, 2)?, 2)?;
+    let mut piled = pile(heap)?;
     both(
         &rt,
         "small pages over small pages over a table host",
-        &mut pile,
-    )
+        &mut piled,
+    )?;
+    show_heaps(&rt, heap)
 }

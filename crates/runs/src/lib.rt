@@ -1,0 +1,4 @@
+pub mod lists;
+
+pub use lists::MutatorCall;
+pub use lists::run;

@@ -1,0 +1,14 @@
+pub mod Model
+pub mod Collect
+pub mod Reach
+pub mod Machine
+pub mod Buffer
+pub mod Steps
+pub mod Pairing
+pub mod Runs
+pub mod Bounds
+pub mod Image
+pub mod Restore
+pub mod Theorems
+pub mod Closed
+pub mod Mutating
