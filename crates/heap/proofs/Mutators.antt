@@ -14,10 +14,11 @@ use Rattle.memory.specs.Memory.{Memory, changed}
 use Rattle.layouts.specs.declared.values.Value.{Value}
 use Rattle.model.specs.Heap.{Heap as Model, with-registers, with-states}
 use Rattle.model.specs.declared.states.State.{State}
-use Rattle.heap.specs.View.{held-value, held-by, no-such, register-view, state-view, state-of}
-use Rattle.heap.specs.declared.plain_state.Held.{Held}
-use Rattle.heap.specs.declared.plain_state.Held.the-variants.{Nil}
-use Rattle.heap.specs.declared.plain_state.Mutator.{Mutator}
+use Rattle.collector.specs.View.{held-value, held-by, no-such, register-view, state-view}
+use Rattle.heap.specs.View.{state-of}
+use Rattle.collector.specs.declared.collector_state.Held.{Held}
+use Rattle.collector.specs.declared.collector_state.Held.the-variants.{Nil}
+use Rattle.collector.specs.declared.collector_state.Mutator.{Mutator}
 use Rattle.heap.specs.declared.plain_state.Plain.{Plain}
 
 abbrev mutator : List Mutator → ℕ → Mutator

@@ -21,7 +21,7 @@ use Rattle.model.specs.declared.calls.Answer.the-variants as Answer
 use Rattle.model.specs.declared.calls.Call.{Call}
 use Rattle.model.specs.declared.calls.Kind.{Kind}
 use Rattle.heap.specs.declared.plain_state.Object.{Object}
-use Rattle.heap.specs.declared.plain_state.ToAddress.{ToAddress}
+use Rattle.collector.specs.declared.collector_state.ToAddress.{ToAddress}
 use Rattle.heap.specs.declared.plain_state.Access.{Access}
 use Rattle.heap.specs.declared.plain_state.Access.the-variants.{Done, Trapped}
 

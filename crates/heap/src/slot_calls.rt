@@ -1,15 +1,17 @@
 ghost use mathlib.Core.Path.{_≡_};
 ghost use Prim.Native.Nat.{ℕ, _<_};
 ghost use Rattle.layouts.specs.Layouts.{Rules};
-ghost use Rattle.model.specs.Objects.{packed-word, slot-count};
+ghost use Rattle.model.specs.Objects.{slot-count};
 ghost use Rattle.model.specs.declared.calls.Call.the-variants as Call;
-ghost use Rattle.heap.specs.View.{held-value, view};
+ghost use Rattle.collector.specs.View.{held-value};
+ghost use Rattle.heap.specs.View.{view};
 ghost use Rattle.heap.specs.Effects.{Does, access-answer, Holds-slot};
 use super::plain_state::Access;
 use super::plain_state::Heap;
-use super::plain_state::Held;
 use super::plain_state::Object;
-use super::plain_state::ToAddress;
+use collector::Held;
+use collector::ToAddress;
+use collector::packed_word;
 use layouts::Layout;
 use layouts::Value;
 use memory::Host;
@@ -47,16 +49,6 @@ fn slots_behind<L: Layout>(layout: &L, header: u32) -> u32
     match layout.slots(header) {
         Some(slots) => slots,
         None => 0,
-    }
-}
-
-/// The word of a value in a slot, 0 where it is not admitted.
-pub(crate) fn packed_word<L: Layout>(layout: &L, header: u32, slot: u32, value: Value) -> u32
-    ensures { λ r. ⌜ r ≡ packed-word (L·Layout .rules) header slot value ⌝ }
-{
-    match layout.pack(header, slot, value) {
-        Ok(word) => word,
-        Err(_) => 0,
     }
 }
 

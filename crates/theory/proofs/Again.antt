@@ -72,9 +72,10 @@ module _ (H : Shape) (b : ℕ → ℕ) (ww : wellWritten H b ≡ true) where
   reg-word j l m =
       let k : ℕ = (j - 6) / 2 in
       let p = parts .2 ((j - 6) / 2) (omega arith) in
+      let f : (j - 6) / 2 < 32 = omega arith in
       elim (cases-eq ((j - 6) % 2) 0) [
-        | inl z ↦ rw (eq-eqb ((j - 6) % 2) 0 z) (kind-back (b (6 + 2 * ((j - 6) / 2))) (b (7 + 2 * ((j - 6) / 2))) (p .0) ∙ ap b (omega arith))
-        | inr n ↦ rw (ne-eqb ((j - 6) % 2) 0 n) (pay-back (b (6 + 2 * ((j - 6) / 2))) (b (7 + 2 * ((j - 6) / 2))) (p .1) ∙ ap b (omega arith))
+        | inl z ↦ rw (eq-eqb ((j - 6) % 2) 0 z, lt-ltb ((j - 6) / 2) 32 f) (kind-back (b (6 + 2 * ((j - 6) / 2))) (b (7 + 2 * ((j - 6) / 2))) (p .0) ∙ ap b (omega arith))
+        | inr n ↦ rw (ne-eqb ((j - 6) % 2) 0 n, lt-ltb ((j - 6) / 2) 32 f) (pay-back (b (6 + 2 * ((j - 6) / 2))) (b (7 + 2 * ((j - 6) / 2))) (p .1) ∙ ap b (omega arith))
       ]
 
   head-word : b 1 ≡ H .pages → b 2 ≡ H .lay .number → (j : ℕ) → j ≢ 0 → j < 70 → headWord H (restored H b) j ≡ b j

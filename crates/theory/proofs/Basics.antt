@@ -116,6 +116,9 @@ half-within sd h l k = elim (cases-eq sd 0) [
   | inr ne ↦ (let e : sd ≡ 1 = omega arith in rw e (omega arith))
 ]
 
+pub twice : (h sd : ℕ) → sd ≤ 1 → sd * h + h ≤ h + h
+twice h sd l = elim (cases-eq sd 0) [ inl e ↦ rw e (omega arith) | inr ne ↦ (let e : sd ≡ 1 = omega arith in rw e (omega arith)) ]
+
 -- an address above a page's start lies on that page or above
 pub aligned : (P k x : ℕ) → 0 < P → k * P ≤ x → k * P ≤ x / P * P
 aligned P k x l h = mul-le-mul-right P (le-div-iff-mul-le {k = P} {x = k} {y = x} l .1 h)

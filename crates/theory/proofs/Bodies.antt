@@ -60,6 +60,7 @@ module _ (H : Shape) (laws : Laws (H .lay)) (F : Flip) (st : St) (scan : ℕ →
     start = b .start;
     last = b .last;
     low = b .low;
+    inside = b .inside;
     phased = b .phased;
   }
 
@@ -114,6 +115,7 @@ module _ (H : Shape) (laws : Laws (H .lay)) (F : Flip) (st : St) (scan : ℕ →
       start = b .start;
       last = b .last;
       low = b .low;
+      inside = b .inside;
       phased = phased′ phase (b .phased);
     }
 
@@ -134,6 +136,7 @@ body-calm H F st scan sd used reg ph ph′ A areg l n u right down up b =
       start = b .start;
       last = b .last;
       low = b .low;
+      inside = b .inside;
       phased = up st′ (b .pair) (record { all = o .all; every = o .every; limit = o .limit; words = o .words; complete = o .complete });
     }
   where

@@ -169,5 +169,6 @@ module _ (H : Shape) (laws : Laws (H .lay)) (F : Flip) (st : St) (scan : ℕ →
     start = b .start;
     last = b .last;
     low = omega (arith, b .low, pl .low);
+    inside = b .inside;
     phased = phased′ phase (b .phased);
   }

@@ -15,7 +15,8 @@ use Rattle.theory.specs.Reach.{reachedWords}
 use Rattle.theory.specs.Machine.{Shape, half, whole, begins, ranPage, grant}
 use Rattle.model.specs.declared.states.Phase.{Phase}
 use Rattle.model.specs.declared.states.Phase.the-variants.{Idle, Collecting}
-use Rattle.theory.proofs.Basics.{upd-same, upd-other, upd-at, or-le, page-lo, page-hi, page-of}
+use Rattle.theory.proofs.Basics.{twice, upd-same, upd-other, upd-at, or-le, page-lo, page-hi, page-of}
+use Rattle.theory.proofs.Copy.{in-to}
 use Rattle.theory.proofs.Flip.{AllDone, flipped, empty, flip-ok, flip-keeps, flip-side}
 use Rattle.theory.proofs.Scan.{exactly, complete}
 use Rattle.theory.proofs.Reach.{reached-words}
@@ -49,6 +50,7 @@ module _ (H : Shape) (laws : Laws (H .lay)) (pos : 0 < H .page) (F : Flip) (st :
       start = b .start;
       last = b .last;
       low = rw lw (b .low);
+      inside = b .inside;
       phased = record {
         used-is = busy .used-is;
         flip-used = busy .flip-used;
@@ -128,6 +130,7 @@ module _ (H : Shape) (laws : Laws (H .lay)) (pos : 0 < H .page) (F : Flip) (st :
         start = b .start;
         last = b .last;
         low = b .low;
+        inside = b .inside;
         phased = record { all = alldone; every = all-done; limit = refl; words = words; complete = λ p h. complete L F (b .ok) A st g (b .inv) (busy .rooted) all-done h };
       }
 
@@ -136,26 +139,30 @@ module _ (H : Shape) (laws : Laws (H .lay)) (pos : 0 < H .page) (F : Flip) (st :
     abbrev rest : Rest H F st A l (b .pair)
     rest = b .phased
 
-    alive : (k : ℕ) → k < 32 → Alive (b .pair .live) (areg k)
+    pub alive : (k : ℕ) → k < 32 → Alive (b .pair .live) (areg k)
     alive k h = b .regs k h .1
 
-    abbrev F₂ : Flip
+    abbrev pub F₂ : Flip
     F₂ = flipped L F (b .ok) A st (b .pair) (b .inv) (rest .all) 32 areg alive start last (start + whole P U) halves small
 
-    abbrev g₂ : Pair
+    abbrev pub g₂ : Pair
     g₂ = empty L F (b .ok) A st (b .pair) (b .inv) (rest .all) 32 areg alive start last (start + whole P U) halves small
 
-    ok₂ : FlipOk L F₂
+    pub ok₂ : FlipOk L F₂
     ok₂ = flip-ok L F (b .ok) A st (b .pair) (b .inv) (rest .all) 32 areg alive start last (start + whole P U) halves small
 
-    used₂ : F₂ .used ≡ U
+    pub used₂ : F₂ .used ≡ U
     used₂ = omega (arith, us, b .inv .total, rest .words, b .low, b .inv .limits)
 
-    inv₂ : (right cross : ℕ → ℕ) → Inv L F₂ A (record { mem = st .mem; top = start; low = last; right = right; cross = cross }) g₂
+    pub inv₂ : (right cross : ℕ → ℕ) → Inv L F₂ A (record { mem = st .mem; top = start; low = last; right = right; cross = cross }) g₂
     inv₂ right cross = flip-keeps L F (b .ok) A st (b .pair) (b .inv) (rest .all) 32 areg alive start last (start + whole P U) halves small right cross (omega (arith, used₂)) fits
 
     side₂ : (right cross : ℕ → ℕ) → Side L P F₂ A (record { mem = st .mem; top = start; low = last; right = right; cross = cross }) g₂
     side₂ right cross = flip-side L F (b .ok) A st (b .pair) (b .inv) (rest .all) 32 areg alive start last (start + whole P U) halves small P right cross
+
+    -- what was to-space lies inside
+    pub inside₂ : (p : ℕ) → b .pair .live p ≡ true → b .pair .to p < half H + half H
+    inside₂ p t = omega (arith, in-to L F (b .ok) A st (b .pair) (b .inv) p 0 t (omega arith), b .last, b .start, twice (half H) sd (b .which))
 
     module _ (right cross : ℕ → ℕ) (sd₂ : ℕ) (ws : sd₂ ≤ 1) (st-is : start ≡ sd₂ * half H) (la-is : last ≡ start + half H) where
       abbrev s₂ : St
@@ -172,6 +179,7 @@ module _ (H : Shape) (laws : Laws (H .lay)) (pos : 0 < H .page) (F : Flip) (st :
         start = st-is;
         last = la-is;
         low = omega (arith, lw);
+        inside = inside₂;
         phased = record {
           used-is = sym us;
           flip-used = used₂;

@@ -1,64 +1,63 @@
 -- The mutators' calls on the moving heap are those of its closed form.
-use mathlib.Core.Path.{_≡_, refl, sym, ap, _∙_, subst}
-use mathlib.Core.Bool.{Bool, true, false, cond, not, _&&_, _||_}
-use mathlib.Core.Logic.{_⊎_, inl, inr, _≢_}
-use Prim.Native.Nat.{ℕ, zero, suc, _+_, _-_, _*_, _/_, _^_, _<_, _≤_, min}
+use mathlib.Core.Path.{_≡_, refl, sym, ap, _∙_}
+use mathlib.Core.Bool.{Bool, true, false, cond, not, _&&_}
+use mathlib.Core.Logic.{_⊎_, inl, inr}
+use Prim.Native.Nat.{ℕ, zero, suc, _+_, _-_, _*_, _/_, _<_, _≤_, min}
 use native.Mathlib.Omega.{arith}
 use native.Mathlib.Nat.{le-refl, mul-le-mul-right, le-of-mul-le-mul-right, lt-of-mul-lt-mul-right, mul-assoc}
 use lib.Dec.{eqb, leb, ltb}
-use Rattle.std.proofs.shelf.Tests.{cases-eq, cases-lt, cases-bool, false≢true, eq-eqb, ne-eqb, eqb-true, leb-true, not-false}
+use Rattle.std.proofs.shelf.Tests.{cases-eq, cases-bool, false≢true, eq-eqb, ne-eqb, not-false}
 use Rattle.std.proofs.shelf.Ways.{tells}
 use Rattle.std.proofs.shelf.Bits.{mul-le}
-use Rattle.std.specs.declared.result.Result.{Result}
 use Rattle.std.specs.declared.result.Result.the-variants.{Ok, Err}
 use Rattle.std.specs.declared.option.Option.{Option}
 use Rattle.std.specs.declared.option.Option.the-variants as Option
 use Rattle.memory.specs.Rights.{rank, may-write}
 use Rattle.memory.specs.Memory.{Memory, legal-sizes, extent, look-answer, put-answer, with-word, after-put}
-use Rattle.memory.specs.declared.hosts.Denied.{Denied}
 use Rattle.memory.specs.declared.hosts.Denied.the-variants.{Fault}
 use Rattle.memory.specs.Refusals.{number}
 use Rattle.memory.specs.declared.refusals.Refusal.{Refusal}
 use Rattle.memory.proofs.Memories.{after-put-allowed}
 use Rattle.layouts.specs.Layouts.{Rules, Lawful}
-use Rattle.layouts.specs.declared.values.Value.{Value}
-use Rattle.layouts.specs.declared.values.Value.the-variants.{Nil, Number, Reference}
+use Rattle.layouts.specs.declared.values.Value.the-variants.{Reference}
 use Rattle.model.specs.declared.calls.Answer.the-variants as Answer
 use Rattle.model.specs.declared.calls.Call.{Call}
 use Rattle.model.specs.declared.calls.Call.the-variants.{New, Load, Store, Copy, SetNumber, SetNil, Same, Tell, Count, Flip, Step, Take, Resolve, Mark, Save}
-use Rattle.model.specs.declared.states.Half.{Half}
-use Rattle.model.specs.declared.states.Half.the-variants.{Lower, Upper}
 use Rattle.model.specs.declared.states.Phase.{Phase}
 use Rattle.model.specs.declared.states.Phase.the-variants.{Idle, Collecting, Imaging}
-use Rattle.model.specs.Heap.{Heap as Moving-heap, plus, half-number, half-pages, whole-pages, to-start, register-number, with-memory, with-new-start, with-register}
+use Rattle.model.specs.Heap.{Heap as Moving-heap, plus, whole-pages, to-start, register-number, with-memory, with-new-start, with-register, with-states}
 use Rattle.model.specs.Objects.{slot-count, is-reference, referred, packed-word, initial}
-use Rattle.model.specs.Refusing.{View, refusal}
+use Rattle.model.specs.declared.states.State.the-variants.{Waiting}
+use Rattle.model.specs.Refusing.{View, refusal, no-mutator, is-in-hand, states-refused}
 use Rattle.model.specs.Outcomes.{Machine, with-heap, Outcome, unless, on-heap, told, without-counts}
 use Rattle.model.specs.Scanning.{lowest as lowest-of}
-use Rattle.model.specs.Mutators.{held, new-limit, has-room, object-put, unsaved-in, new-at, new-place, header-in, slot-address, load-by, store-by}
+use Rattle.model.specs.Mutators.{held, new-limit, object-put, unsaved-in, new-at, header-in, slot-address, load-by, store-by}
+use Rattle.model.specs.Collections.{copied-in, scanned-in}
 use Rattle.model.specs.Calls.{moving-view, carried-out, turned-down, call}
 use Rattle.theory.specs.Model.{upd}
-use Rattle.theory.specs.Collect.{Flip as Flipping, Inv}
-use Rattle.theory.specs.Machine.{Shape, half, whole, Found, Found.none, Found.found, lowest, viewM, headOf, fine, refused, refusal as closed-refusal, isBusy, Machine as Closed, Never as Closed-never}
+use Rattle.theory.specs.Collect.{Flip as Flipping}
+use Rattle.theory.specs.Machine.{Shape, half, whole, Found, Found.none, Found.found, lowest, viewM, fine, refused, refusal as closed-refusal, isBusy, Machine as Closed, Never as Closed-never}
 use Rattle.theory.specs.Steps.{Outcome as Closed-outcome, act, denied, call as closed-call, traps, did, loaded, stored, newAt, place}
-use Rattle.theory.specs.Closed.{closed-layout, both-halves, closed-shape, closed-words, closed}
+use Rattle.theory.specs.Closed.{closed-layout, both-halves, closed-shape, closed}
 use Rattle.theory.specs.Mutating.{is-mutator-call}
-use Rattle.theory.proofs.Basics.{div-mono, page-lo, page-hi, aligned, whole-covers, lowest-fails}
+use Rattle.theory.proofs.Basics.{div-mono, page-lo, aligned, whole-covers, lowest-fails, twice}
 use Rattle.theory.proofs.Copy.{in-to, start-top}
 use Rattle.theory.proofs.World.{World, Body, Phased}
 use Rattle.theory.proofs.Rights.{InTo, Rights, RightsOf}
 use Rattle.theory.proofs.Sim.{holder, new-space}
 use Rattle.theory.proofs.ClosedLaws.{closed-laws, size-positive, size-few, count-few}
-use Rattle.theory.proofs.ClosedRefusals.{code, refusal-of-number, some-number, refusals-same, head-referred, Same-view, Slot-accepted, new-accepted, load-accepted, store-accepted}
-use Rattle.theory.proofs.ClosedWrites.{look-as, put-as, writes-as, with-object, object-written}
+use Rattle.theory.proofs.ClosedRefusals.{back-as, mutator-as, code, refusal-of-number, some-number, refusals-same, head-referred, Same-view, Slot-accepted, new-accepted, load-accepted, store-accepted}
+use Rattle.theory.proofs.ClosedKept.{Kept, kept-refl, kept-as}
+use Rattle.theory.proofs.ClosedWrites.{look-as, put-as, writes-as, object-written}
 
--- what a call leaves and answers is that of the closed form, counts of words apart; the sizes stay
+-- what a call leaves and answers is that of the closed form; the sizes stay, and the rights past the last page
 pub record Meets (x : Machine) (o : Outcome Machine) (r : Closed-outcome) : Type 0 where
   pub left : closed (o .left) ≡ r .next
   pub answer : without-counts (o .answer) ≡ r .answer
   pub told-same : told (o .answer) ≡ r .told
-  pub page-size : o .left .heap .memory .page-size ≡ x .heap .memory .page-size
-  pub page-count : o .left .heap .memory .page-count ≡ x .heap .memory .page-count
+  pub kept : Kept (x .heap .memory) (o .left .heap .memory)
+  pub copied-same : copied-in (o .answer) ≡ r .copied
+  pub scanned-same : scanned-in (o .answer) ≡ r .scanned
 
 -- Searches
 
@@ -80,17 +79,13 @@ lowest-as (suc k) n f g h = rw (h n (le-refl _) (omega arith)) (by (g n) (lowest
     by false e = e
 
 -- to-space ends inside
-ends-inside : (count size sd : ℕ) → sd ≤ 1 → sd * (count / 2 * size) + count / 2 * size ≤ count * size
+pub ends-inside : (count size sd : ℕ) → sd ≤ 1 → sd * (count / 2 * size) + count / 2 * size ≤ count * size
 ends-inside count size sd l =
     let m = mul-le (count / 2 + count / 2) size count size (omega arith) (le-refl _) in
     elim (cases-eq sd 0) [
       | inl e ↦ rw e (omega arith)
       | inr ne ↦ (let e : sd ≡ 1 = omega arith in rw e (omega arith))
     ]
-
--- the pages of a half and of those below it
-twice : (k sd : ℕ) → sd ≤ 1 → sd * k + k ≤ k + k
-twice k sd l = elim (cases-eq sd 0) [ inl e ↦ rw e (omega arith) | inr ne ↦ (let e : sd ≡ 1 = omega arith in rw e (omega arith)) ]
 
 module _ (L : Rules) (lawful : Lawful L) (count size : ℕ) (small : both-halves count size ≤ 16384) (legal : legal-sizes count size ≡ true) (x : Machine)
     (es : x .heap .memory .page-size ≡ size) (ec : x .heap .memory .page-count ≡ count)
@@ -170,13 +165,14 @@ module _ (L : Rules) (lawful : Lawful L) (count size : ℕ) (small : both-halves
 
   load-both : (k d o i p : ℕ) → is-reference (h .register (register-number k o)) ≡ true → (t : Bool) →
       Meets x (on-heap x (load-by L h k d o i (cond t (Err (Fault p)) (Ok (m .word (slot-address h k o i)))))) (cond t (traps c k p) (did (loaded H c k d o i) fine))
-  load-both k d o i p r true = record { left = refl; answer = refl; told-same = refl; page-size = refl; page-count = refl }
+  load-both k d o i p r true = record { left = refl; answer = refl; told-same = refl; kept = kept-refl m; copied-same = refl; scanned-same = refl }
   load-both k d o i p r false = record {
     left = ap (λ z. closed (with-heap x (with-register h k d (L .unpacked z i (m .word (slot-address h k o i)))))) (sym (head-referred (m .word) (h .register (register-number k o)) r));
     answer = refl;
     told-same = refl;
-    page-size = refl;
-    page-count = refl;
+    kept = kept-refl m;
+    copied-same = refl;
+    scanned-same = refl;
   }
 
   meets-load : (k d o i : ℕ) → Slot-accepted v k o i → Meets x (carried-out L x (Load k d o i)) (act H c (Load k d o i))
@@ -193,10 +189,11 @@ module _ (L : Rules) (lawful : Lawful L) (count size : ℕ) (small : both-halves
         left = ap (λ z. closed (with-heap x (with-memory h z))) q ∙ ap (λ z. closed (with-heap x (with-memory h (with-word m (slot-address h k o i) (packed-word L z i (held h k y)))))) (sym (head-referred (m .word) (h .register (register-number k o)) r));
         answer = refl;
         told-same = refl;
-        page-size = ap (λ z. z .page-size) q;
-        page-count = ap (λ z. z .page-count) q;
+        kept = kept-as m _ _ q refl refl refl;
+        copied-same = refl;
+        scanned-same = refl;
       }
-  store-both k o i y p r false e = record { left = refl; answer = refl; told-same = refl; page-size = refl; page-count = refl }
+  store-both k o i y p r false e = record { left = refl; answer = refl; told-same = refl; kept = kept-refl m; copied-same = refl; scanned-same = refl }
 
   meets-store : (k o i y : ℕ) → Slot-accepted v k o i → Meets x (carried-out L x (Store k o i y)) (act H c (Store k o i y))
   meets-store k o i y s =
@@ -276,15 +273,16 @@ module _ (L : Rules) (lawful : Lawful L) (count size : ℕ) (small : both-halves
 
     new-both : (k d : ℕ) (f : Option ℕ) → lowest (suc ((h .new-start - 1) / size - at / size)) (at / size) (λ q. not (eqb (rank (m .right q)) 2)) ≡ found-of f →
         Meets x (on-heap x (new-at L h k d r n at f)) (newAt H c k d r n (found-of f))
-    new-both k d (Option.Some p) e = record { left = refl; answer = refl; told-same = refl; page-size = refl; page-count = refl }
+    new-both k d (Option.Some p) e = record { left = refl; answer = refl; told-same = refl; kept = kept-refl m; copied-same = refl; scanned-same = refl }
     new-both k d Option.None e =
         let q = object-as e in
         record {
           left = ap (λ y. closed (with-heap x (with-register (with-new-start (with-memory h y) at) k d (Reference at)))) q;
           answer = refl;
           told-same = refl;
-          page-size = ap (λ y. y .page-size) q;
-          page-count = ap (λ y. y .page-count) q;
+          kept = kept-as m _ _ q refl refl refl;
+          copied-same = refl;
+          scanned-same = refl;
         }
 
     meets-new : (k d : ℕ) → Meets x (carried-out L x (New k d r n)) (act H c (New k d r n))
@@ -295,16 +293,16 @@ module _ (L : Rules) (lawful : Lawful L) (count size : ℕ) (small : both-halves
   new-fits : (k d r n : ℕ) → refusal v (New k d r n) ≡ Option.None → b .pair .limit + suc (r + n) ≤ h .new-start
   new-fits k d r n e = new-space H (closed-laws L lawful) pos F c a w (h .phase) (b .phased) (suc (r + n)) (sym (same-view .room (r + n)) ∙ ap not (new-accepted v k d r n e .1))
 
-  meets-carried : (k : Call) → is-mutator-call k ≡ true → refusal v k ≡ Option.None → Meets x (carried-out L x k) (act H c k)
+  pub meets-carried : (k : Call) → is-mutator-call k ≡ true → refusal v k ≡ Option.None → Meets x (carried-out L x k) (act H c k)
   meets-carried (New k d r n) i e = meets-new r n (new-fits k d r n e) k d
   meets-carried (Load k d o j) i e = meets-load k d o j (load-accepted v k d o j e)
   meets-carried (Store k o j y) i e = meets-store k o j y (store-accepted v k o j y e .0)
-  meets-carried (Copy k d f o) i e = record { left = refl; answer = refl; told-same = refl; page-size = refl; page-count = refl }
-  meets-carried (SetNumber k d n) i e = record { left = refl; answer = refl; told-same = refl; page-size = refl; page-count = refl }
-  meets-carried (SetNil k d) i e = record { left = refl; answer = refl; told-same = refl; page-size = refl; page-count = refl }
-  meets-carried (Same k y z) i e = record { left = refl; answer = refl; told-same = refl; page-size = refl; page-count = refl }
-  meets-carried (Tell k o) i e = record { left = refl; answer = refl; told-same = refl; page-size = refl; page-count = refl }
-  meets-carried Count i e = record { left = refl; answer = refl; told-same = refl; page-size = refl; page-count = refl }
+  meets-carried (Copy k d f o) i e = record { left = refl; answer = refl; told-same = refl; kept = kept-refl m; copied-same = refl; scanned-same = refl }
+  meets-carried (SetNumber k d n) i e = record { left = refl; answer = refl; told-same = refl; kept = kept-refl m; copied-same = refl; scanned-same = refl }
+  meets-carried (SetNil k d) i e = record { left = refl; answer = refl; told-same = refl; kept = kept-refl m; copied-same = refl; scanned-same = refl }
+  meets-carried (Same k y z) i e = record { left = refl; answer = refl; told-same = refl; kept = kept-refl m; copied-same = refl; scanned-same = refl }
+  meets-carried (Tell k o) i e = record { left = refl; answer = refl; told-same = refl; kept = kept-refl m; copied-same = refl; scanned-same = refl }
+  meets-carried Count i e = record { left = refl; answer = refl; told-same = refl; kept = kept-refl m; copied-same = refl; scanned-same = refl }
   meets-carried Flip i e = absurd (false≢true i)
   meets-carried Step i e = absurd (false≢true i)
   meets-carried (Take k) i e = absurd (false≢true i)
@@ -312,28 +310,31 @@ module _ (L : Rules) (lawful : Lawful L) (count size : ℕ) (small : both-halves
   meets-carried (Mark n) i e = absurd (false≢true i)
   meets-carried (Save n) i e = absurd (false≢true i)
 
-  meets-refused : (k : Call) → is-mutator-call k ≡ true → (e : Refusal) → Meets x (turned-down L x k e) (did (denied c k (number e)) (refused (number e)))
-  meets-refused (New k d r n) i e = record { left = refl; answer = ap Answer.Refused (sym (refusal-of-number e)); told-same = refl; page-size = refl; page-count = refl }
-  meets-refused (Load k d o j) i e = record { left = refl; answer = ap Answer.Refused (sym (refusal-of-number e)); told-same = refl; page-size = refl; page-count = refl }
-  meets-refused (Store k o j y) i e = record { left = refl; answer = ap Answer.Refused (sym (refusal-of-number e)); told-same = refl; page-size = refl; page-count = refl }
-  meets-refused (Copy k d f o) i e = record { left = refl; answer = ap Answer.Refused (sym (refusal-of-number e)); told-same = refl; page-size = refl; page-count = refl }
-  meets-refused (SetNumber k d n) i e = record { left = refl; answer = ap Answer.Refused (sym (refusal-of-number e)); told-same = refl; page-size = refl; page-count = refl }
-  meets-refused (SetNil k d) i e = record { left = refl; answer = ap Answer.Refused (sym (refusal-of-number e)); told-same = refl; page-size = refl; page-count = refl }
-  meets-refused (Same k y z) i e = record { left = refl; answer = ap Answer.Refused (sym (refusal-of-number e)); told-same = refl; page-size = refl; page-count = refl }
-  meets-refused (Tell k o) i e = record { left = refl; answer = ap Answer.Refused (sym (refusal-of-number e)); told-same = refl; page-size = refl; page-count = refl }
-  meets-refused Count i e = record { left = refl; answer = ap Answer.Refused (sym (refusal-of-number e)); told-same = refl; page-size = refl; page-count = refl }
-  meets-refused Flip i e = absurd (false≢true i)
-  meets-refused Step i e = absurd (false≢true i)
-  meets-refused (Take k) i e = absurd (false≢true i)
-  meets-refused (Resolve k p n) i e = absurd (false≢true i)
-  meets-refused (Mark n) i e = absurd (false≢true i)
-  meets-refused (Save n) i e = absurd (false≢true i)
+  met-refused : (k : Call) (e : Refusal) → closed (with-heap x (with-states h (states-refused v k e))) ≡ denied c k (number e) → Meets x (turned-down L x k e) (did (denied c k (number e)) (refused (number e)))
+  met-refused k e q = record { left = q; answer = ap Answer.Refused (sym (refusal-of-number e)); told-same = refl; kept = kept-refl m; copied-same = refl; scanned-same = refl }
 
-  -- by the refusal's number
-  meets-by : (k : Call) → is-mutator-call k ≡ true → (o : Option Refusal) → refusal v k ≡ o → (n : ℕ) → code o ≡ n →
+  pub meets-refused : (k : Call) (e : Refusal) → Meets x (turned-down L x k e) (did (denied c k (number e)) (refused (number e)))
+  meets-refused (New k d r n) e = met-refused (New k d r n) e refl
+  meets-refused (Load k d o j) e = met-refused (Load k d o j) e refl
+  meets-refused (Store k o j y) e = met-refused (Store k o j y) e refl
+  meets-refused (Copy k d f o) e = met-refused (Copy k d f o) e refl
+  meets-refused (SetNumber k d n) e = met-refused (SetNumber k d n) e refl
+  meets-refused (SetNil k d) e = met-refused (SetNil k d) e refl
+  meets-refused (Same k y z) e = met-refused (Same k y z) e refl
+  meets-refused (Tell k o) e = met-refused (Tell k o) e refl
+  meets-refused Count e = met-refused Count e refl
+  meets-refused Flip e = met-refused Flip e refl
+  meets-refused Step e = met-refused Step e refl
+  meets-refused (Take k) e = met-refused (Take k) e refl
+  meets-refused (Mark n) e = met-refused (Mark n) e refl
+  meets-refused (Save n) e = met-refused (Save n) e refl
+  meets-refused (Resolve k p n) e = met-refused (Resolve k p n) e (ap (λ f. closed (with-heap x (with-states h f))) (back-as (eqb (number e) 5) (no-mutator k) (is-in-hand p (h .state k)) (upd (h .state) k (Waiting p)) (h .state) ∙ ap (λ t. cond (eqb (number e) 5) (cond (t && is-in-hand p (h .state k)) (upd (h .state) k (Waiting p)) (h .state)) (h .state)) (mutator-as k)))
+
+  -- a call, by its refusal's number
+  meets-by : (k : Call) → (refusal v k ≡ Option.None → Meets x (carried-out L x k) (act H c k)) → (o : Option Refusal) → refusal v k ≡ o → (n : ℕ) → code o ≡ n →
       Meets x (unless o (turned-down L x k) (carried-out L x k)) (cond (eqb n 0) (act H c k) (did (denied c k n) (refused n)))
-  meets-by k i Option.None q n e = rw (← e) (meets-carried k i q)
-  meets-by k i (Option.Some y) q n e = rw (← e, ne-eqb (number y) 0 (some-number y)) (meets-refused k i y)
+  meets-by k f Option.None q n e = rw (← e) (f q)
+  meets-by k f (Option.Some y) q n e = rw (← e, ne-eqb (number y) 0 (some-number y)) (meets-refused k y)
 
-  pub meets : (k : Call) → is-mutator-call k ≡ true → Meets x (call L x k) (closed-call H c k)
-  meets k i = meets-by k i (refusal v k) refl (closed-refusal (viewM H c) k) (refusals-same v (viewM H c) same-view k)
+  pub meets-from : (k : Call) → (refusal v k ≡ Option.None → Meets x (carried-out L x k) (act H c k)) → Meets x (call L x k) (closed-call H c k)
+  meets-from k f = meets-by k f (refusal v k) refl (closed-refusal (viewM H c) k) (refusals-same v (viewM H c) same-view k)

@@ -108,6 +108,15 @@ four-names m d f s = grind (arith, tells)
 no-mutator-as : (m : ℕ) → no-mutator m ≡ not (ltb m 4)
 no-mutator-as m = grind (arith, tells)
 
+-- one of the four mutators
+pub mutator-as : (m : ℕ) → not (no-mutator m) ≡ ltb m 4
+mutator-as m = grind (arith, tells)
+
+-- a fault that goes back for want of a buffer
+pub back-as : {A : Type 0} (a b t : Bool) (f g : A) → cond (a && (not b && t)) f g ≡ cond a (cond (not b && t) f g) g
+back-as true b t f g = refl
+back-as false b t f g = refl
+
 holds-as : (m : ℕ) (t : Bool) → not (not (no-mutator m) && t) ≡ not (ltb m 4 && t)
 holds-as m t = ap (λ z. not (z && t)) (grind (arith, tells))
 
@@ -170,7 +179,7 @@ module _ (v : View) (w : Closed-view) (s : Same-view v w) where
 
 -- What a call that is not refused is known to have
 
-passes : (b : Bool) (e : Refusal) (rest : Option Refusal) → refuse-if b e rest ≡ None → (b ≡ false) × (rest ≡ None)
+pub passes : (b : Bool) (e : Refusal) (rest : Option Refusal) → refuse-if b e rest ≡ None → (b ≡ false) × (rest ≡ None)
 passes true e rest q = absurd (let z : _≡_ {A = ℕ} 0 1 = cc in omega arith)
 passes false e rest q = (refl, q)
 

@@ -65,7 +65,7 @@ module _ (H : Shape) (laws : Laws (H .lay)) (pos : 0 < H .page) where
         scanned = omega (arith, k .1 .1, l .scanned);
       }
 
-  lasts : {a₀ : Never} {co sc : ℕ} {m : Machine} {a : Never} → Since H a₀ co sc m a → Lasts H a₀ co sc m a
+  pub lasts : {a₀ : Never} {co sc : ℕ} {m : Machine} {a : Never} → Since H a₀ co sc m a → Lasts H a₀ co sc m a
   lasts {a₀ = a₀} (flips {m = m} c e) = first a₀ m (comes c) e
   lasts {a₀ = a₀} (goes {co = co} {sc = sc} {m = m} {a = a} s pc c) = onward a₀ co sc m a (lasts s) pc c
 
@@ -90,6 +90,7 @@ module _ (H : Shape) (laws : Laws (H .lay)) (pos : 0 < H .page) where
       copied = λ p l k. let k₂ : p < f .old .many = omega (arith, many) in let w₂ = b .inv .within p l k₂ in (reached p (b .inv .came p l k₂ .1), omega (arith, b .start), w₂ .1);
       covered = λ x l k. let o = b .inv .cover x (omega (arith, b .start)) k in (o .0, o .1, omega (arith, many, o .2), o .3, o .4);
       news = λ p k. ((λ l. b .inv .below p l), λ l. b .inv .news p (omega (arith, many)) l);
+      new = λ p l k. let o = b .inv .beyond p l (omega (arith, many)) in (o .0, omega (arith, b .last, b .start));
       apart = b .inv .apart;
       header = b .inv .head;
       registers = λ k l. b .regs k l .0;

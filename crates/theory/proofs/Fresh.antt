@@ -80,6 +80,7 @@ module _ (H : Shape) where
       start = omega arith;
       last = omega arith;
       low = omega arith;
+      inside = λ p t. absurd (false≢true t);
       phased = record { all = λ p i t k. absurd (false≢true t); every = λ x a c. absurd (omega arith); limit = refl; words = refl; complete = λ p h. absurd (false≢true (reached-here (H .lay) F ok h)) };
     };
     mut = refl;

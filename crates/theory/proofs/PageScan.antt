@@ -79,7 +79,7 @@ grant-inv L F A s g n r inv = record {
 module _ (L : Layout) (laws : Laws L) (P : ℕ) (pos : 0 < P) (F : Flip) (ok : FlipOk L F) (A : Heap) (s : St) (g : Pair) (inv : Inv L F A s g) (side : Side L P F A s g)
     (scan : ℕ → ℕ) (sc : Scans L P F A s g scan) (room : F .start + F .used ≤ g .limit) (n : ℕ) (st : F .start ≤ n * P) where
   -- the header where scanning begins
-  points : scan n < s .top → scan n < n * P + P → Points L F A g (begins P s scan n) (scan n)
+  pub points : scan n < s .top → scan n < n * P + P → Points L F A g (begins P s scan n) (scan n)
   points b c = elim (cases-eq (scan n) (n * P)) [
     | inl e ↦ (
         let o = side .cross n st (omega arith) in
@@ -95,7 +95,7 @@ module _ (L : Layout) (laws : Laws L) (P : ℕ) (pos : 0 < P) (F : Flip) (ok : F
   ]
 
   -- a word of page n at or after the first unscanned one is unscanned
-  unscanned : (x : ℕ) → scan n ≤ x → x < n * P + P → x < g .limit → g .done x ≡ false
+  pub unscanned : (x : ℕ) → scan n ≤ x → x < n * P + P → x < g .limit → g .done x ≡ false
   unscanned x a b c =
       let lo = sc .low n in
       let e = page-of P x n (omega arith) b in

@@ -40,7 +40,7 @@ pub record Ran (L : Layout) (P : ℕ) (F : Flip) (A : Heap) (s : St) (g : Pair) 
 module _ (L : Layout) (laws : Laws L) (P : ℕ) (F : Flip) (ok : FlipOk L F) (A : Heap) where
   module _ (s : St) (g : Pair) (inv : Inv L F A s g) where
     -- the header of the word at a, found from that of the word before
-    found : (hd a : ℕ) → F .start ≤ a → a < s .top → Points L F A g hd a → (q : ℕ) × (g .live q ≡ true) × (q < F .old .many) × (headAt L s hd a ≡ g .to q) × (g .to q ≤ a) × (a < g .to q + size L A q)
+    pub found : (hd a : ℕ) → F .start ≤ a → a < s .top → Points L F A g hd a → (q : ℕ) × (g .live q ≡ true) × (q < F .old .many) × (headAt L s hd a ≡ g .to q) × (g .to q ≤ a) × (a < g .to q + size L A q)
     found hd a l b p =
         let q = p .place in
         let hq : s .mem hd ≡ A .hdr q = ap (s .mem) (p .head) ∙ inv .head q (p .live) in
@@ -59,7 +59,7 @@ module _ (L : Layout) (laws : Laws L) (P : ℕ) (F : Flip) (ok : FlipOk L F) (A 
 
     module _ (room : F .start + F .used ≤ g .limit) where
       -- the word at a, of the object of q
-      scan-one : (hd a q : ℕ) → g .live q ≡ true → q < F .old .many → hd ≡ g .to q → g .to q ≤ a → a < g .to q + size L A q → g .done a ≡ false → Scanned L P F A s g a (scanAt L P s hd a)
+      pub scan-one : (hd a q : ℕ) → g .live q ≡ true → q < F .old .many → hd ≡ g .to q → g .to q ≤ a → a < g .to q + size L A q → g .done a ≡ false → Scanned L P F A s g a (scanAt L P s hd a)
       scan-one hd a q l m e f t u = elim (cases-eq a hd) [
         | inl k ↦ rw (eq-eqb a hd k, k, e) (scan-head L F ok A s g inv P q l m)
         | inr ne ↦ (
@@ -94,12 +94,12 @@ module _ (L : Layout) (laws : Laws L) (P : ℕ) (F : Flip) (ok : FlipOk L F) (A 
   abbrev Keeps : ℕ → ℕ → Type 0
   Keeps k e = (s : St) (g : Pair) (hd a : ℕ) → Inv L F A s g → F .start + F .used ≤ g .limit → F .start ≤ a → (a < s .top → Points L F A g hd a) → ((x : ℕ) → a ≤ x → x < e → x < g .limit → g .done x ≡ false) → Ran L P F A s g e a (scanRun L P e k s hd a) × (e ≤ a + k → min e (scanRun L P e k s hd a .0 .top) ≤ scanRun L P e k s hd a .1)
 
-  points-on : (s : St) (g : Pair) (hd a q : ℕ) (s₁ : St) (sc : Scanned L P F A s g a s₁) → g .live q ≡ true → q < F .old .many → hd ≡ g .to q → g .to q ≤ a → a < g .to q + size L A q → Points L F A (sc .pair) hd (suc a)
+  pub points-on : (s : St) (g : Pair) (hd a q : ℕ) (s₁ : St) (sc : Scanned L P F A s g a s₁) → g .live q ≡ true → q < F .old .many → hd ≡ g .to q → g .to q ≤ a → a < g .to q + size L A q → Points L F A (sc .pair) hd (suc a)
   points-on s g hd a q s₁ sc l m e f t =
       let u = sc .grows .to q l in
       record { place = q; live = sc .grows .live q l; old = m; head = e ∙ sym u; from = omega arith; to = omega arith }
 
-  unscanned-on : (s : St) (g : Pair) (a e : ℕ) (s₁ : St) (sc : Scanned L P F A s g a s₁) → ((x : ℕ) → a ≤ x → x < e → x < g .limit → g .done x ≡ false) → (x : ℕ) → suc a ≤ x → x < e → x < sc .pair .limit → sc .pair .done x ≡ false
+  pub unscanned-on : (s : St) (g : Pair) (a e : ℕ) (s₁ : St) (sc : Scanned L P F A s g a s₁) → ((x : ℕ) → a ≤ x → x < e → x < g .limit → g .done x ≡ false) → (x : ℕ) → suc a ≤ x → x < e → x < sc .pair .limit → sc .pair .done x ≡ false
   unscanned-on s g a e s₁ sc un x c d m = ap (λ z. z x) (sc .done) ∙ upd-other (g .done) a x true (omega arith) ∙ un x (omega arith) d (rw (sc .grows .limit) at m)
 
   run-more : (k e : ℕ) → Keeps k e → (s : St) (g : Pair) (hd a q : ℕ) (s₁ : St) (sc : Scanned L P F A s g a s₁) → F .start + F .used ≤ g .limit → F .start ≤ a → a < s .top → a < e → g .live q ≡ true → q < F .old .many → hd ≡ g .to q → g .to q ≤ a → a < g .to q + size L A q → ((x : ℕ) → a ≤ x → x < e → x < g .limit → g .done x ≡ false) → Ran L P F A s g e a (scanRun L P e k s₁ hd (suc a)) × (e ≤ suc a + k → min e (scanRun L P e k s₁ hd (suc a) .0 .top) ≤ scanRun L P e k s₁ hd (suc a) .1)

@@ -126,8 +126,15 @@ module _ (L : Layout) (F : Flip) (ok : FlipOk L F) where
     ]
   ]
 
-  fixed : Fixed (suc n)
-  fixed = elim (slow (suc n)) [ inl f ↦ f | inr h ↦ absurd (omega (arith, sum-ones (within L (F .old) (F .regs) (F .reg) (suc n)) n)) ]
+  -- as many rounds as places: a round found nothing new, or every place is found
+  fixed : Fixed n
+  fixed = elim (slow n) [
+    | inl f ↦ f
+    | inr h ↦ (λ p l e. elim (cases-bool (within L (F .old) (F .regs) (F .reg) n p)) [
+      | inl t ↦ t
+      | inr u ↦ absurd (omega (arith, weight-add (λ q. 1) (within L (F .old) (F .regs) (F .reg) n) n p l u, sum-ones (upd (within L (F .old) (F .regs) (F .reg) n) p true) n))
+    ])
+  ]
 
   first : (r p k : ℕ) → k < F .regs → F .reg k ≡ Reference p → within L (F .old) (F .regs) (F .reg) r p ≡ true
   unfolding within
@@ -135,13 +142,13 @@ module _ (L : Layout) (F : Flip) (ok : FlipOk L F) where
   first (suc r) p k l e = more r p (first r p k l e)
 
   pub reaches-all : {p : ℕ} → Reached L F p → reaches L (F .old) (F .regs) (F .reg) p ≡ true
-  reaches-all (root {p = p} k l e) = first (suc n) p k l e
+  reaches-all (root {p = p} k l e) = first n p k l e
   reaches-all (step {p = p} i q r l e) =
       let h = reached-here L F ok r in
-      fixed q (ok .below q (ok .closed p i q h l e)) (onward (suc n) p i q (ok .below p h) l e (reaches-all r))
+      fixed q (ok .below q (ok .closed p i q h l e)) (onward n p i q (ok .below p h) l e (reaches-all r))
 
   pub reaches-only : (p : ℕ) → reaches L (F .old) (F .regs) (F .reg) p ≡ true → Reached L F p
-  reaches-only p e = sound (suc n) p e
+  reaches-only p e = sound n p e
 
   -- a set of places that are exactly the reached ones has as many words
   pub reached-words : (b : ℕ → Bool) → ((p : ℕ) → p < n → (b p ≡ true → Reached L F p) × (Reached L F p → b p ≡ true)) → sumTo n (weight (size L (F .old)) b) ≡ reachedWords L (F .old) (F .regs) (F .reg)

@@ -184,7 +184,7 @@ module _ (H : Shape) (laws : Laws (H .lay)) (pos : 0 < H .page) (m : Machine) (g
       side = side-word;
       copied = omega (arith, side-at, copied-count, bounds);
       new = omega (arith, side-at, new-count, bounds);
-      registers = λ k l. ap₂ regFrom (kind-word k l) (pay-word k l) ∙ reg-back (m .reg k);
+      registers = λ k l. cond-true (ltb k 32) (regFrom (w (6 + 2 * k)) (w (7 + 2 * k))) Nil (lt-ltb k 32 l) ∙ ap₂ regFrom (kind-word k l) (pay-word k l) ∙ reg-back (m .reg k);
       words = λ x l k u.
           cond-true _ _ _ (in-range (w 3 * half H) (w 3 * half H + half H) x (omega (arith, side-at)) (omega (arith, side-at)))
           ∙ ap (λ z. w (70 + z)) (let z : x - w 3 * half H ≡ x - m .side * half H = omega (arith, side-at) in z)

@@ -37,11 +37,11 @@ abbrev pub InTo : Shape → ℕ → ℕ → Type 0
 InTo H side n = (side * H .pages ≤ n) × (n < side * H .pages + H .pages)
 
 -- idle: all. Collecting: all where new objects may lie, and on each page with copied words that is not behind.
--- Imaging: read on an unsaved page, which had a used word at MARK, and all elsewhere.
+-- Imaging: read on an unsaved page, which had a used word at MARK and lies in to-space, and all elsewhere.
 abbrev pub Rights : Shape → St → (ℕ → Bool) → (ℕ → ℕ) → ℕ → ℕ → ℕ → Phase → Type 0
 Rights H st pend scan side used mark Idle = (n : ℕ) → InTo H side n → st .right n ≡ 2
 Rights H st pend scan side used mark Collecting = (n : ℕ) → InTo H side n → (side * half H + whole (H .page) used ≤ n * H .page → st .right n ≡ 2) × (n * H .page < st .top → min (n * H .page + H .page) (st .top) ≤ scan n → st .right n ≡ 2)
-Rights H st pend scan side used mark Imaging = (st .low ≤ mark) × ((n : ℕ) → InTo H side n → (pend n ≡ false → st .right n ≡ 2) × (pend n ≡ true → (st .right n ≡ 1) × ((n * H .page < st .top) ⊎ (mark < n * H .page + H .page))))
+Rights H st pend scan side used mark Imaging = (st .low ≤ mark) × ((n : ℕ) → InTo H side n → (pend n ≡ false → st .right n ≡ 2) × (pend n ≡ true → (st .right n ≡ 1) × ((n * H .page < st .top) ⊎ (mark < n * H .page + H .page)))) × ((n : ℕ) → pend n ≡ true → InTo H side n)
 
 abbrev pub RightsOf : Shape → Machine → Type 0
 RightsOf H m = Rights H (m .st) (m .pend) (m .scan) (m .side) (m .used) (m .mark) (m .phase)
@@ -87,19 +87,29 @@ module _ (H : Shape) (laws : Laws (H .lay)) (pos : 0 < H .page) where
   rights-finish m q i = rw (in-range (m .side * H .pages) (m .side * H .pages + H .pages) q (i .0) (i .1))
 
   rights-mark : (m : Machine) → Rights H (m .st) (m .pend) (m .scan) (m .side) (m .used) (m .mark) Idle → RightsOf H (markNow H m)
-  rights-mark m r = (le-refl _, λ n i. ((λ e. rw e (r n i)), λ e. (rw (e, r n i), used n e)))
+  rights-mark m r = (le-refl _, (λ n i. ((λ e. rw e (r n i)), λ e. (rw (e, r n i), used n e))), in-half)
     where
       used : (n : ℕ) → usedPage H m n ≡ true → (n * P < m .st .top) ⊎ (m .st .low < n * P + P)
       used n e =
           let t = and-parts (leb (m .side * H .pages) n && ltb n (m .side * H .pages + H .pages)) (ltb (n * P) (m .st .top) || ltb (m .st .low) (n * P + P)) e .1 in
           elim (or-cases (ltb (n * P) (m .st .top)) (ltb (m .st .low) (n * P + P)) t) [ inl x ↦ inl (ltb-true (n * P) (m .st .top) x) | inr x ↦ inr (ltb-true (m .st .low) (n * P + P) x) ]
 
+      in-half : (n : ℕ) → usedPage H m n ≡ true → InTo H (m .side) n
+      in-half n e =
+          let t = and-parts (leb (m .side * H .pages) n && ltb n (m .side * H .pages + H .pages)) (ltb (n * P) (m .st .top) || ltb (m .st .low) (n * P + P)) e .0 in
+          let u = and-parts (leb (m .side * H .pages) n) (ltb n (m .side * H .pages + H .pages)) t in
+          (leb-true (m .side * H .pages) n (u .0), ltb-true n (m .side * H .pages + H .pages) (u .1))
+
   rights-save : (m : Machine) (n : ℕ) → Rights H (m .st) (m .pend) (m .scan) (m .side) (m .used) (m .mark) Imaging → RightsOf H (savePage H m n)
   rights-save m n r = (
     r .0,
-    λ q i. elim (cases-eq q n) [
+    (λ q i. elim (cases-eq q n) [
       | inl e ↦ ((λ z. upd-at (m .st .right) n q 2 e), λ z. absurd (both-ways (upd (m .pend) n false q) (upd-at (m .pend) n q false e) z))
       | inr ne ↦ rw (upd-other (m .pend) n q false ne, upd-other (m .st .right) n q 2 ne) (r .1 q i)
+    ]),
+    λ q z. elim (cases-eq q n) [
+      | inl e ↦ absurd (both-ways (upd (m .pend) n false q) (upd-at (m .pend) n q false e) z)
+      | inr ne ↦ r .2 q (sym (upd-other (m .pend) n q false ne) ∙ z)
     ],
   )
 
@@ -110,7 +120,7 @@ module _ (H : Shape) (laws : Laws (H .lay)) (pos : 0 < H .page) where
   rights-words : (st st′ : St) (pend : ℕ → Bool) (scan : ℕ → ℕ) (side used mark : ℕ) → st′ .right ≡ st .right → st′ .top ≡ st .top → st′ .low ≤ st .low → (ph : Phase) → Rights H st pend scan side used mark ph → Rights H st′ pend scan side used mark ph
   rights-words st st′ pend scan side used mark er et el Idle r = λ n i. rw er (r n i)
   rights-words st st′ pend scan side used mark er et el Collecting r = λ n i. rw (er, et) (r n i)
-  rights-words st st′ pend scan side used mark er et el Imaging r = (omega (arith, r .0), λ n i. rw (er, et) (r .1 n i))
+  rights-words st st′ pend scan side used mark er et el Imaging r = (omega (arith, r .0), (λ n i. rw (er, et) (r .1 n i)), r .2)
 
   module _ (F : Flip) (m : Machine) (a : Never) (w : World H F m a) (r : RightsOf H m) where
     rights-busy : m .phase ≡ Collecting → Rights H (m .st) (m .pend) (m .scan) (m .side) (m .used) (m .mark) Collecting

@@ -57,10 +57,10 @@ module _ (L : Layout) (laws : Laws L) (P : ℕ) (F : Flip) (ok : FlipOk L F) (A 
     b₀ : i < L .slots (F .old .hdr p)
     b₀ = rw (inv .heads p m) at b
 
-    fit : L .admits (A .hdr p) i (F .old .val p i) ≡ true
+    pub fit : L .admits (A .hdr p) i (F .old .val p i) ≡ true
     fit = rw (← (raw .1)) (inv .fits p i l b)
 
-    here-ref : (v : Value) → F .old .val p i ≡ v → Alive (F .here) v
+    pub here-ref : (v : Value) → F .old .val p i ≡ v → Alive (F .here) v
     here-ref Nil e = tt
     here-ref (Number n) e = tt
     here-ref (Reference q) e = ok .closed p i q (inv .came p l m .0) b₀ e
@@ -68,7 +68,7 @@ module _ (L : Layout) (laws : Laws L) (P : ℕ) (F : Flip) (ok : FlipOk L F) (A 
     near : addressable (mapV (F .addr) (F .old .val p i)) ≡ true
     near = near-mapV (F .here) (F .addr) (F .old .val p i) (here-ref (F .old .val p i) refl) (ok .near)
 
-    read : (v : Value) → F .old .val p i ≡ v → L .unpack (A .hdr p) i (s .mem at) ≡ mapV (F .addr) v
+    pub read : (v : Value) → F .old .val p i ≡ v → L .unpack (A .hdr p) i (s .mem at) ≡ mapV (F .addr) v
     read v e =
         ap (L .unpack (A .hdr p) i) (raw .0) ∙ laws .unpacks (A .hdr p) i _ (inv .valid p l) b near (admits-mapV L laws (A .hdr p) i (F .addr) (F .old .val p i) fit) ∙ ap (mapV (F .addr)) e
 

@@ -117,9 +117,9 @@ module _ (H : Shape) (k p : ℕ) (kb : k < 4) (reg : ℕ → Value) (m : Machine
   handed q s (inr e) t = sym (eqb-true p q (sym (ap (isHand q) e) ∙ t))
 
   stands-back : (j q : ℕ) → StandsAt p (handBack (m .mut) j q k)
-  stands-back j q = elim (cases-bool (isHand q (m .mut j))) [
+  stands-back j q = elim (cases-bool (ltb j 4 && isHand q (m .mut j))) [
     | inl t ↦ rw t (elim (cases-eq k j) [
-      | inl e ↦ rw (upd-at (m .mut) j k (Waiting q) e) (inl (ap Waiting (handed q (m .mut j) (rw e at (h .state)) t)))
+      | inl e ↦ rw (upd-at (m .mut) j k (Waiting q) e) (inl (ap Waiting (handed q (m .mut j) (rw e at (h .state)) (and-parts (ltb j 4) (isHand q (m .mut j)) t .1))))
       | inr ne ↦ stands-mut j (Waiting q) ne
     ])
     | inr f ↦ rw f (h .state)

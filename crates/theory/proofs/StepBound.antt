@@ -228,7 +228,7 @@ module _ (H : Shape) (laws : Laws (H .lay)) (pos : 0 < H .page) (F : Flip) (m : 
   ]
 
 -- a call is a STEP or not
-step-or : (c : Call) → (steps c ≡ 0) ⊎ (c ≡ Step)
+pub step-or : (c : Call) → (steps c ≡ 0) ⊎ (c ≡ Step)
 step-or (New k d r x) = inl refl
 step-or (Load k d x i) = inl refl
 step-or (Store k x i y) = inl refl

@@ -70,6 +70,8 @@ pub record Body (H : Shape) (flip : Flip) (st : St) (scan : ℕ → ℕ) (half-i
   pub start : flip .start ≡ half-is * half H
   pub last : flip .last ≡ flip .start + half H
   pub low : n + st .low ≡ flip .last
+  -- the objects that the last FLIP found lie inside
+  pub inside : (p : ℕ) → flip .here p ≡ true → flip .addr p < half H + half H
   pub phased : Phased H flip st scan used A l u pair phase
 
 pub record World (H : Shape) (F : Flip) (m : Machine) (a : Never) : Type 0 where

@@ -5,7 +5,7 @@ use lib.Dec.{ltb}
 use lib.ListN.{length}
 use Rattle.memory.specs.Rights.{rank}
 use Rattle.layouts.specs.Layouts.{Rules}
-use Rattle.model.specs.Heap.{Heap, half-number}
+use Rattle.model.specs.Heap.{Heap, Moving, moving, half-number}
 use Rattle.model.specs.Objects.{slot-count, is-header, packed-word}
 use Rattle.model.specs.Outcomes.{Machine}
 use Rattle.model.specs.Reaching.{object-at, slot-at}
@@ -25,8 +25,12 @@ both-halves count size = count / 2 * size + count / 2 * size
 abbrev pub closed-shape : (L : Rules) (count size : ℕ) → both-halves count size ≤ 16384 → Shape
 closed-shape L count size small = record { lay = closed-layout L; page = size; pages = count / 2; small = small }
 
+-- what forwarding changes, with the lowest word of the new objects
+abbrev pub closed-moving : Moving → ℕ → St
+closed-moving s low = record { mem = s .memory .word; top = s .space .copy-end; low = low; right = λ p. rank (s .memory .right p); cross = s .space .crossing }
+
 abbrev pub closed-words : Heap → St
-closed-words h = record { mem = h .memory .word; top = h .space .copy-end; low = h .new-start; right = λ p. rank (h .memory .right p); cross = h .space .crossing }
+closed-words h = closed-moving (moving h) (h .new-start)
 
 -- there are at most 64 pages; a page past them counts as unscanned
 abbrev pub closed : Machine → Closed

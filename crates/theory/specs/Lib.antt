@@ -12,3 +12,4 @@ pub mod Restore
 pub mod Theorems
 pub mod Closed
 pub mod Mutating
+pub mod Promises

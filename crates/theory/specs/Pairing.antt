@@ -35,6 +35,7 @@ pub record Paired (H : Shape) (a₀ : Never) (m : Machine) (a : Never) : Type 0 
   pub covered : (x : ℕ) → m .side * half H ≤ x → x < m .st .top → (p : ℕ) × (live p ≡ true) × (p < a₀ .heap .many) × (to p ≤ x) × (x < to p + size (H .lay) (a .heap) p)
   -- a new one is of a NEW since
   pub news : (p : ℕ) → a₀ .heap .many ≤ p → (live p ≡ true → p < a .heap .many) × (p < a .heap .many → live p ≡ true)
+  pub new : (p : ℕ) → live p ≡ true → a₀ .heap .many ≤ p → (m .st .low ≤ to p) × (to p + size (H .lay) (a .heap) p ≤ m .side * half H + half H)
   -- one to one
   pub apart : (p q : ℕ) → live p ≡ true → live q ≡ true → p ≢ q → Clear (to p) (size (H .lay) (a .heap) p) (to q) (size (H .lay) (a .heap) q)
   -- what agrees

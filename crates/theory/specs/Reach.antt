@@ -23,7 +23,7 @@ within L A n reg (suc r) p = within L A n reg r p || any (A .many) (λ q. within
 
 -- no path to a place is longer than there are places
 abbrev pub reaches : Layout → Heap → ℕ → (ℕ → Value) → ℕ → Bool
-reaches L A n reg p = within L A n reg (suc (A .many)) p
+reaches L A n reg p = within L A n reg (A .many) p
 
 -- the words of all objects reached
 abbrev pub reachedWords : Layout → Heap → ℕ → (ℕ → Value) → ℕ

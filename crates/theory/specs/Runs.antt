@@ -1,16 +1,15 @@
 -- Lists of calls, and what stands between a trap and its repeat.
 use mathlib.Core.Path.{_≡_}
-use mathlib.Core.Bool.{Bool, true, false, cond, not, _&&_, _||_}
+use mathlib.Core.Bool.{Bool, true, not, _||_}
 use mathlib.Core.List.{List, [], _∷_}
 use mathlib.Core.Logic.{_≢_}
-use Prim.Native.Nat.{ℕ, zero, suc, _+_, _-_, _*_, _/_, _<_, _≤_}
-use lib.Dec.{eqb}
+use Prim.Native.Nat.{ℕ, _+_, _*_, _<_, _≤_}
 use Rattle.theory.specs.Machine.{Shape, Machine, trapped, viewM, refusal}
 use Rattle.model.specs.declared.states.Phase.{Phase}
 use Rattle.model.specs.declared.states.Phase.the-variants.{Idle, Collecting, Imaging}
 use Rattle.model.specs.declared.calls.Call.{Call}
 use Rattle.model.specs.declared.calls.Call.the-variants.{New, Load, Store, Copy, SetNumber, SetNil, Same, Tell, Count, Flip as Turn, Step, Take, Resolve, Mark, Save}
-use Rattle.model.specs.declared.calls.Answer.{Answer}
+use Rattle.model.specs.Runs.{is-resolve-of, is-mark}
 use Rattle.theory.specs.Steps.{call, freshM}
 
 -- the state after a list of calls
@@ -25,38 +24,10 @@ Quiet H f m (c ∷ cs) = (f c ≡ true → refusal (viewM H m) c ≢ 0) × Quiet
 
 -- a RESOLVE of mutator k
 abbrev pub resolves : ℕ → Call → Bool
-resolves k (New j d r w) = false
-resolves k (Load j d s i) = false
-resolves k (Store j s i x) = false
-resolves k (Copy j d f s) = false
-resolves k (SetNumber j d n) = false
-resolves k (SetNil j d) = false
-resolves k (Same j a b) = false
-resolves k (Tell j s) = false
-resolves k Count = false
-resolves k Turn = false
-resolves k Step = false
-resolves k (Take j) = false
-resolves k (Resolve j p n) = eqb j k
-resolves k (Mark n) = false
-resolves k (Save n) = false
+resolves k c = is-resolve-of k c
 
 abbrev pub marks : Call → Bool
-marks (New j d r w) = false
-marks (Load j d s i) = false
-marks (Store j s i x) = false
-marks (Copy j d f s) = false
-marks (SetNumber j d n) = false
-marks (SetNil j d) = false
-marks (Same j a b) = false
-marks (Tell j s) = false
-marks Count = false
-marks Turn = false
-marks Step = false
-marks (Take j) = false
-marks (Resolve j p n) = false
-marks (Mark n) = true
-marks (Save n) = false
+marks c = is-mark c
 
 -- a LOAD or STORE by mutator k of slot i of the object in its register s
 pub data Accesses (k s i : ℕ) : Call → Type 0 where

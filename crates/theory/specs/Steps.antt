@@ -249,7 +249,7 @@ act H m (Save n) = save H m (lowestPend H m)
 
 -- a refused call alters nothing, but that RESOLVE's 5 sets the mutator back to waiting
 abbrev pub handBack : (ℕ → State) → ℕ → ℕ → (ℕ → State)
-handBack mut k p = cond (isHand p (mut k)) (upd mut k (Waiting p)) mut
+handBack mut k p = cond (ltb k 4 && isHand p (mut k)) (upd mut k (Waiting p)) mut
 
 abbrev pub denied : Machine → Call → ℕ → Machine
 denied m (New k d r w) e = m

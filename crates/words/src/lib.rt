@@ -1,7 +1,8 @@
 ghost use mathlib.Core.Path.{_≡_};
 ghost use Prim.Native.Nat.{ℕ, _+_, _/_, _≤_};
-ghost use Rattle.memory.specs.Memory.{look-answer, put-answer, after-put};
+ghost use Rattle.memory.specs.Memory.{look-answer, put-answer, after-put, after-set};
 ghost use Rattle.model.specs.Heap.{half-pages};
+ghost use Rattle.model.specs.Forwarding.{copied, closed};
 ghost use Rattle.model.specs.Collecting.{opened};
 ghost use Rattle.words.specs.Words.{zeroed};
 use memory::Denied;
@@ -20,6 +21,38 @@ pub fn word<H: Host>(host: &mut H, a: u32) -> u32
     match host.see(a) {
         Ok(word) => word,
         Err(_) => 0,
+    }
+}
+
+/// Writes the word at an address, by the second view; outside, nothing.
+pub fn set_word<H: Host>(host: &mut H, a: u32, word: u32)
+    ensures { λ _. ⌜ meaning (now (host .exit)) ≡ after-set (meaning (now (host .entry))) a word ⌝ }
+{
+    let _ = host.set(a, word);
+}
+
+/// The word that lies so far behind an address, by the second view; 0 outside.
+pub fn word_behind<H: Host>(host: &mut H, base: u32, offset: u32) -> u32
+    ensures value { λ r. ⌜ r ≡ meaning (now (host .entry)) .word (base + offset) ⌝ }
+    ensures after { λ _. ⌜ meaning (now (host .exit)) ≡ meaning (now (host .entry)) ⌝ }
+{
+    word(host, base.saturating_add(offset))
+}
+
+/// Writes the word that lies so far behind an address, by the second view; outside, nothing.
+pub fn set_behind<H: Host>(host: &mut H, base: u32, offset: u32, word: u32)
+    ensures { λ _. ⌜ meaning (now (host .exit)) ≡ after-set (meaning (now (host .entry))) (base + offset) word ⌝ }
+{
+    set_word(host, base.saturating_add(offset), word);
+}
+
+/// Copies words, the first one first, by the second view.
+pub fn copy_words<H: Host>(host: &mut H, old: u32, new: u32, count: u32)
+    ensures { λ _. ⌜ meaning (now (host .exit)) ≡ copied count (meaning (now (host .entry))) old new ⌝ }
+{
+    for k in 0..count {
+        let word = word_behind(host, old, k);
+        set_behind(host, new, k, word);
     }
 }
 
@@ -55,6 +88,20 @@ pub fn open_pages<H: Host>(host: &mut H, first: u32, count: u32)
     for i in 0..count {
         let _ = host.unprot(first.saturating_add(i), Right::All);
     }
+}
+
+/// Lowers to none the pages that so many words from an address on touch.
+pub fn close_pages<H: Host>(host: &mut H, first: u32, count: u32)
+    ensures { λ _. ⌜ meaning (now (host .exit)) ≡ closed (meaning (now (host .entry))) first count ⌝ }
+{
+    let size = page_words(host);
+    let page = first / size;
+    let last = first.saturating_add(count.saturating_sub(1)) / size;
+    let _ = host.protn(
+        page,
+        last.saturating_sub(page).saturating_add(1),
+        Right::None,
+    );
 }
 
 // What the laws of a host say of its sizes; it does nothing.

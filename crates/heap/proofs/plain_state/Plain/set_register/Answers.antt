@@ -2,7 +2,7 @@ use borrow.Author.Needs.{needs}
 use Prim.Native.Nat.{_+_, _*_}
 use lib.ListN.{getD, set}
 use Rattle.memory.specs.Memory.{changed}
-use Rattle.heap.specs.View.{held-value, no-such, register-view, state-view}
+use Rattle.collector.specs.View.{held-value, no-such, register-view, state-view}
 use Rattle.heap.proofs.Mutators.{with-mutator, mutators-seen, register-changed, states-kept}
 use Rattle.heap.proofs.plain_state.Plain.set_register.Needs as need
 

@@ -1,7 +1,7 @@
 use borrow.Author.Needs.{needs}
 use lib.ListN.{getD}
 use Rattle.memory.specs.Memory.{changed}
-use Rattle.heap.specs.View.{no-such, register-view, state-view}
+use Rattle.collector.specs.View.{no-such, register-view, state-view}
 use Rattle.heap.proofs.Mutators.{with-mutator, mutators-seen, registers-kept, state-changed}
 use Rattle.heap.proofs.plain_state.Plain.set_state.Needs as need
 
