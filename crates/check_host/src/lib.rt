@@ -1,3 +1,5 @@
+#![tactic(auto)]
+
 pub mod host_calls;
 pub mod marks;
 

@@ -1,3 +1,5 @@
+#![tactic(auto)]
+
 pub mod flipping;
 pub mod forwarding;
 pub mod pages;

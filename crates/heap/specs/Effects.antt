@@ -1,16 +1,15 @@
 -- What a call's contract says of its answer and of what it leaves.
-use Rattle.std.specs.Prelude.{◌≡◌, ℕ, suc, ◌^◌, ◌<◌, Bool, true, false, List, length, Ok, Err, Option, Result}
+use Rattle.std.specs.Prelude.{◌≡◌, ℕ, suc, ◌^◌, ◌<◌, Bool, false, List, length, Ok, Err, Option, Result}
 use Rattle.memory.specs.declared.refusals.Refusal.{Refusal}
 use Rattle.layouts.specs.Layouts.{Rules}
 use Rattle.layouts.specs.declared.values.Value.{Value}
-use Rattle.layouts.specs.declared.values.Value.TheVariants.{Reference}
 use Rattle.std.specs.declared.option.Option.TheVariants as Option
 use Rattle.model.specs.Heap.{Heap as Model}
 use Rattle.model.specs.Outcomes.{Machine, with_heap, outcome}
 use Rattle.model.specs.Calls.{moving_view, call}
 use Rattle.model.specs.Mutators.{held, header_in}
-use Rattle.model.specs.Objects.{is_reference, referred}
-use Rattle.model.specs.Refusing.{is_running, unless_running, unless_slot}
+use Rattle.model.specs.Objects.{referred}
+use Rattle.model.specs.Refusing.{unless_running, unless_slot}
 use Rattle.model.specs.declared.calls.Answer.{Answer}
 use Rattle.model.specs.declared.calls.Answer.TheVariants as Answer
 use Rattle.model.specs.declared.calls.Call.{Call}
@@ -20,7 +19,6 @@ use Rattle.model.specs.Images.{image_words}
 use Rattle.images.specs.Lent.{machine, saved_if_unsaved}
 use Rattle.model.specs.declared.calls.Kind.{Kind}
 use Rattle.heap.specs.declared.heap_state.Object.{Object}
-use Rattle.state.specs.declared.mutators.ToAddress.{ToAddress}
 use Rattle.heap.specs.declared.heap_state.Access.{Access}
 use Rattle.heap.specs.declared.heap_state.Access.TheVariants.{Done, Trapped}
 use Rattle.collector.specs.Steps.{has_ended, scanned_if, counts_if}
@@ -46,13 +44,8 @@ tell_answer (Err e) = Answer.Refused e
 
 -- the object in register s of mutator m has slot i; or why not
 abbrev pub HoldsSlot : Rules → Model → ℕ → ℕ → ℕ → Result Object Refusal → Type 0
-HoldsSlot L h m s i (Ok o) = (is_running (h.state m) ≡ true) × (unless_running (moving_view L h) m (unless_slot (moving_view L h) m s i Option.None) ≡ Option.None) × (o.address.0 ≡ referred (held h m s)) × (o.header ≡ header_in h m s) × (suc i < 2 ^ 32)
+HoldsSlot L h m s i (Ok o) = (unless_running (moving_view L h) m (unless_slot (moving_view L h) m s i Option.None) ≡ Option.None) × (o.address.0 ≡ referred (held h m s)) × (o.header ≡ header_in h m s) × (suc i < 2 ^ 32)
 HoldsSlot L h m s i (Err e) = unless_running (moving_view L h) m (unless_slot (moving_view L h) m s i Option.None) ≡ Option.Some e
-
--- the address that a value refers to, if it does
-abbrev pub Refers : Value → Option ToAddress → Type 0
-Refers v (Option.Some a) = v ≡ Reference a.0
-Refers v Option.None = is_reference v ≡ false
 
 abbrev pub flip_answer : Result ℕ Refusal → Answer
 flip_answer (Ok n) = Answer.Copied n

@@ -99,7 +99,7 @@ impl<H: Host, L: Layout> Heap<H, L> {
             return Err(Refusal::Name);
         }
         let header = new_header(&self.layout, r, w)?;
-        if !self.is_running(m) {
+        if !self.plain.is_running(m) {
             return Err(Refusal::Waits);
         }
         let words = r + w + 1;

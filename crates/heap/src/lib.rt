@@ -1,3 +1,5 @@
+#![tactic(auto)]
+
 pub mod allocation;
 pub mod collection_calls;
 pub mod fault_calls;

@@ -44,10 +44,10 @@ impl<H: Host, L: Layout> Heap<H, L> {
         if m > 3 || d > 7 || f > 3 || s > 7 {
             return Err(Refusal::Name);
         }
-        if !self.is_running(m) {
+        if !self.plain.is_running(m) {
             return Err(Refusal::Waits);
         }
-        let held = self.register(f, s);
+        let held = self.plain.register(f, s);
         self.hold(m, d, held);
         Ok(())
     }
@@ -60,7 +60,7 @@ impl<H: Host, L: Layout> Heap<H, L> {
         if m > 3 || d > 7 {
             return Err(Refusal::Name);
         }
-        if !self.is_running(m) {
+        if !self.plain.is_running(m) {
             return Err(Refusal::Waits);
         }
         self.hold(m, d, Held::Number(number));
@@ -75,7 +75,7 @@ impl<H: Host, L: Layout> Heap<H, L> {
         if m > 3 || d > 7 {
             return Err(Refusal::Name);
         }
-        if !self.is_running(m) {
+        if !self.plain.is_running(m) {
             return Err(Refusal::Waits);
         }
         self.hold(m, d, Held::Nil);
@@ -89,10 +89,10 @@ impl<H: Host, L: Layout> Heap<H, L> {
         if m > 3 || a > 7 || b > 7 {
             return Err(Refusal::Name);
         }
-        if !self.is_running(m) {
+        if !self.plain.is_running(m) {
             return Err(Refusal::Waits);
         }
-        Ok(same_held(self.register(m, a), self.register(m, b)))
+        Ok(same_held(self.plain.register(m, a), self.plain.register(m, b)))
     }
 
     /// TELL: nil, reference, or the number that a register holds.
@@ -102,10 +102,10 @@ impl<H: Host, L: Layout> Heap<H, L> {
         if m > 3 || s > 7 {
             return Err(Refusal::Name);
         }
-        if !self.is_running(m) {
+        if !self.plain.is_running(m) {
             return Err(Refusal::Waits);
         }
-        Ok(kind_held(self.register(m, s)))
+        Ok(kind_held(self.plain.register(m, s)))
     }
 
     /// COUNT: how often a call trapped since the heap was made; it stays at 4294967295.

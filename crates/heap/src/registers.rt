@@ -5,7 +5,7 @@ ghost use Rattle.model.specs.Mutators.{denied as denied-outcome};
 ghost use Rattle.model.specs.Outcomes.{outcome, trapped};
 ghost use Rattle.state.specs.View.{held_value, register_view, state_view};
 ghost use Rattle.heap.specs.View.{view};
-ghost use Rattle.heap.specs.Effects.{Refers, access_answer};
+ghost use Rattle.heap.specs.Effects.{access_answer};
 ghost use Rattle.heap.specs.Moves.{advanced, moves};
 
 use super::heap_state::{Access, Heap};
@@ -15,41 +15,13 @@ use model::State;
 use state::{Event, Held, ToAddress, next_state};
 
 impl<H: Host, L: Layout> Heap<H, L> {
-    /// What a register holds.
-    pub(crate) fn register(&self, m: u32, r: u32) -> Held
-        requires { (m < 4) × (r < 8) }
-        ensures { held_value result ≡ register_view self.now.plain.mutators (register_number m r) }
-    {
-        self.plain.mutators[m as usize].registers[r as usize]
-    }
-
-    /// The object that a register refers to.
-    pub(crate) fn reference(&self, m: u32, r: u32) -> Option<ToAddress>
-        requires { (m < 4) × (r < 8) }
-        ensures { Refers (register_view self.now.plain.mutators (register_number m r)) result }
-    {
-        match self.register(m, r) {
-            Held::Reference(a) => Some(a),
-            _ => None,
-        }
-    }
-
-    /// Whether a mutator runs.
-    pub(crate) fn is_running(&self, m: u32) -> bool
-        requires { m < 4 }
-        ensures { result ≡ is_running (state_view self.now.plain.mutators m) }
-    {
-        matches!(self.plain.mutators[m as usize].state, State::Running)
-    }
-
     /// Puts a value into a register.
     pub(crate) fn hold(&mut self, m: u32, r: u32, held: Held)
         requires { (m < 4) × (r < 8) }
         ensures after { view H.Host.meaning self.new ≡ with_register (view H.Host.meaning self.old) m r (held_value held) }
         ensures layout { self.new.layout ≡ self.old.layout }
     {
-        let mutator = &mut self.plain.mutators[m as usize];
-        mutator.hold(r, held);
+        self.plain.set_register(m, r, held);
     }
 
     /// Moves a mutator to a state.
@@ -58,8 +30,7 @@ impl<H: Host, L: Layout> Heap<H, L> {
         ensures after { view H.Host.meaning self.new ≡ with_state (view H.Host.meaning self.old) m state }
         ensures layout { self.new.layout ≡ self.old.layout }
     {
-        let mutator = &mut self.plain.mutators[m as usize];
-        mutator.move_to(state);
+        self.plain.set_state(m, state);
     }
 
     /// Moves a mutator as an event has it: the state it then has, if the event fits its state.
@@ -76,9 +47,9 @@ impl<H: Host, L: Layout> Heap<H, L> {
         Some(state)
     }
 
-    /// Traps a running mutator on a page.
+    /// Traps a mutator on a page.
     pub(crate) fn trap(&mut self, m: u32, page: u32)
-        requires { (m < 4) × (is_running (state_view self.old.plain.mutators m) ≡ true) }
+        requires { m < 4 }
         ensures after { view H.Host.meaning self.new ≡ (trapped (view H.Host.meaning self.old) m page).left }
         ensures layout { self.new.layout ≡ self.old.layout }
     {
@@ -86,9 +57,9 @@ impl<H: Host, L: Layout> Heap<H, L> {
         self.plain.traps = self.plain.traps.saturating_add(1);
     }
 
-    /// Ends an access of a running mutator that the host denied: a fault traps it on its page.
+    /// Ends an access that the host denied: a fault traps the mutator on its page.
     pub(crate) fn deny(&mut self, m: u32, denied: Denied) -> Result<Access, Refusal>
-        requires { (m < 4) × (is_running (state_view self.old.plain.mutators m) ≡ true) }
+        requires { m < 4 }
         ensures ends { denied-outcome (view H.Host.meaning self.old) m denied ≡ outcome (view H.Host.meaning self.new) (access_answer result) }
         ensures layout { self.new.layout ≡ self.old.layout }
     {

@@ -54,10 +54,10 @@ impl<H: Host, L: Layout> Heap<H, L> {
         ensures plain { self.new.plain ≡ self.old.plain }
         ensures layout { self.new.layout ≡ self.old.layout }
     {
-        if !self.is_running(m) {
+        if !self.plain.is_running(m) {
             return Err(Refusal::Waits);
         }
-        let Some(address) = self.reference(m, s) else {
+        let Some(address) = self.plain.reference(m, s) else {
             return Err(Refusal::NoReference);
         };
         let header = word(&mut self.host, address.0);
@@ -95,7 +95,7 @@ impl<H: Host, L: Layout> Heap<H, L> {
             return Err(Refusal::Name);
         }
         let object = self.object_with_slot(m, s, i)?;
-        let value = value_of(self.register(m, v));
+        let value = value_of(self.plain.register(m, v));
         if !self.layout.admits(object.header, i, value) {
             return Err(Refusal::Misfit);
         }

@@ -1,3 +1,5 @@
+#![tactic(auto)]
+
 pub mod buffers;
 pub mod marking;
 pub mod preambles;

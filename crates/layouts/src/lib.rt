@@ -1,3 +1,5 @@
+#![tactic(auto)]
+
 pub mod layout_rules;
 pub mod split_layout;
 pub mod tagged_layout;

@@ -1,3 +1,5 @@
+#![tactic(auto)]
+
 pub mod hosts;
 pub mod refusals;
 pub mod rights;

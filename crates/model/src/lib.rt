@@ -1,3 +1,5 @@
+#![tactic(auto)]
+
 ghost use Rattle.model.specs.Examples.{ObjectsAt29And27, ShortRunAnswers, NumberEdges, ShapeEdges, ForwardingEdge, SpaceEdges};
 
 pub mod calls;

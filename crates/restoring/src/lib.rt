@@ -1,3 +1,5 @@
+#![tactic(auto)]
+
 pub mod fields;
 pub mod image_words;
 pub mod outlines;

@@ -1,3 +1,5 @@
+#![tactic(auto)]
+
 mod answer_forms;
 mod fault_calls;
 pub mod lists;

@@ -7,20 +7,24 @@ use Rattle.state.specs.declared.mutators.Event.TheVariants.{Trap, Take, Resolve,
 use Rattle.state.specs.declared.mutators.Held.{Held}
 use Rattle.state.specs.declared.mutators.Mutator.{Mutator}
 
+-- the fault of a waiting mutator is handed out
+abbrev pub handed : State → Option State
+handed Running = None
+handed (Waiting q) = Some (InHand q)
+handed (InHand q) = None
+
+-- a mutator in hand with page p comes to state s
+abbrev pub from_hand : State → ℕ → State → Option State
+from_hand Running p s = None
+from_hand (Waiting q) p s = None
+from_hand (InHand q) p s = cond (q == p) (Some s) None
+
 -- where an event moves a mutator: running, waiting, in hand and back
 abbrev pub next : State → Event → Option State
-next Running (Trap p) = Some (Waiting p)
-next Running Take = None
-next Running (Resolve p) = None
-next Running (GoBack p) = None
-next (Waiting q) (Trap p) = None
-next (Waiting q) Take = Some (InHand q)
-next (Waiting q) (Resolve p) = None
-next (Waiting q) (GoBack p) = None
-next (InHand q) (Trap p) = None
-next (InHand q) Take = None
-next (InHand q) (Resolve p) = cond (q == p) (Some Running) None
-next (InHand q) (GoBack p) = cond (q == p) (Some (Waiting p)) None
+next s (Trap p) = Some (Waiting p)
+next s Take = handed s
+next s (Resolve p) = from_hand s p Running
+next s (GoBack p) = from_hand s p (Waiting p)
 
 -- register r holds v; there is no register above 7
 abbrev pub with_held : Mutator → ℕ → Held → Mutator

@@ -44,7 +44,7 @@ pub fn next_state(state: State, event: Event) -> Option<State>
     ensures { result ≡ next state event }
 {
     match (state, event) {
-        (State::Running, Event::Trap(page)) => Some(State::Waiting(page)),
+        (_, Event::Trap(page)) => Some(State::Waiting(page)),
         (State::Waiting(page), Event::Take) => Some(State::InHand(page)),
         (State::InHand(held), Event::Resolve(page)) if held == page => Some(State::Running),
         (State::InHand(held), Event::GoBack(page)) if held == page => Some(State::Waiting(page)),

@@ -1,3 +1,5 @@
+#![tactic(auto)]
+
 ghost use Rattle.std.specs.Prelude.{◌≡◌, ◌<◌, vec_len};
 ghost use Rattle.memory.specs.Memory.{with_word, with_right, page_found};
 ghost use Rattle.table_host.specs.Meaning.{OnPage, table_meaning, translated};

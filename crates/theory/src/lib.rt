@@ -1,4 +1,6 @@
 //! Theorems of the heap's definitions. Nothing here runs.
+#![tactic(auto)]
+
 ghost use Rattle.theory.specs.ImageExample.{ImageIsAccepted, ImageIsAStart, ObjectsOfTheImage, RoundTripAnswers};
 ghost use Rattle.theory.specs.RestoreChecks.{AcceptedIfNoneFails, LengthIsOfNoMatter};
 ghost use Rattle.theory.specs.SpoiltImages.{OnePageWouldNotBeSealedInTime, UnsealedWouldNotRestoreItsMoment, OtherPageSizeWouldNotBeWrittenAgain, OtherPagesOfAHalfWouldNotBeWrittenAgain, OtherLayoutWouldNotBeWrittenAgain, Half2WouldNotBeWrittenAgain, TooManyWordsWouldAnswerOtherwise, Kind3WouldNotBeWrittenAgain, NilWithPayloadWouldNotBeWrittenAgain, UnusedWordWouldNotBeWrittenAgain};

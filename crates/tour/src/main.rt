@@ -1,3 +1,5 @@
+#![tactic(auto)]
+
 mod actions;
 mod answers;
 mod checkpoint;

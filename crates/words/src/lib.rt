@@ -1,3 +1,5 @@
+#![tactic(auto)]
+
 ghost use Rattle.std.specs.Prelude.{◌≡◌, ℕ, ◌+◌, ◌/◌, ◌≤◌};
 ghost use Rattle.memory.specs.Memory.{look_answer, put_answer, after_put, after_set};
 ghost use Rattle.model.specs.Heap.{half_pages};

@@ -7,6 +7,6 @@ pub returns : goal.returns
 returns g c =
     let m = g.H.Host.meaning c.args.host.now in
     record {
-      answer = c.look.ensures.answer ∙ ap (look_answer m) c.saturating-add.ensures ∙ look_far m (g.met.H.Host.sized c.args.host.now) _;
+      answer = c.look.ensures.answer ∙ ap (look_answer m) c.saturating_add.ensures ∙ look_far m (g.met.H.Host.sized c.args.host.now) _;
       after = c.look.ensures.after;
     }

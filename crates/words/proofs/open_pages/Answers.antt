@@ -8,5 +8,5 @@ use Rattle.words.proofs.open_pages.Goals as goal
 pub loop-i-preserved : goal.loop-i-preserved
 loop-i-preserved g c =
     let m = g.H.Host.meaning c.loop-i.host in
-    let opens = c.unprot.ensures.after ∙ ap (λ x. after_unprot m x All) c.saturating-add.ensures ∙ unprot_far m (g.met.H.Host.sized c.loop-i.host) _ All in
+    let opens = c.unprot.ensures.after ∙ ap (λ x. after_unprot m x All) c.saturating_add.ensures ∙ unprot_far m (g.met.H.Host.sized c.loop-i.host) _ All in
     opened_more c.loop-i.i _ _ _ c.args.first c.loop-i.invariant opens

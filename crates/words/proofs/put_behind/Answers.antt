@@ -8,6 +8,6 @@ returns g c =
     let m = g.H.Host.meaning c.args.host.now in
     let sized = g.met.H.Host.sized c.args.host.now in
     record {
-      answer = c.put.ensures.answer ∙ ap (put_answer m) c.saturating-add.ensures ∙ put_far m sized _;
-      after = c.put.ensures.after ∙ ap (λ x. after_put m x c.args.word) c.saturating-add.ensures ∙ after_put_far m sized _ c.args.word;
+      answer = c.put.ensures.answer ∙ ap (put_answer m) c.saturating_add.ensures ∙ put_far m sized _;
+      after = c.put.ensures.after ∙ ap (λ x. after_put m x c.args.word) c.saturating_add.ensures ∙ after_put_far m sized _ c.args.word;
     }

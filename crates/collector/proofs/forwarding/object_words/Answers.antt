@@ -2,8 +2,8 @@ use Rattle.std.proofs.Common.{suc, sym, ap, ◌∙◌, add-one, arith}
 use Rattle.model.specs.Objects.{some_or_0}
 use Rattle.collector.proofs.forwarding.object_words.Goals as goal
 
-pub overflow-add-result : goal.overflow-add-result
-overflow-add-result g c =
+pub overflow_add-result : goal.overflow_add-result
+overflow_add-result g c =
     let few = (g.met.L.Layout.lawful.shaped c.args.header c.in-Some.slots (sym c.in-Some.ensures)).3 in
     omega arith
 

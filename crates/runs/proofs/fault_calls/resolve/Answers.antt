@@ -9,8 +9,8 @@ use Rattle.runs.specs.Hands.{handed_out, HandsMatch, at_hand}
 use Rattle.runs.proofs.FaultTurns.{agree, fault_at, emptied, not_held, spent}
 use Rattle.runs.proofs.fault_calls.resolve.Goals as goal
 
-pub returns-then-not-is-at-hand : goal.returns-then-not-is-at-hand
-returns-then-not-is-at-hand g c =
+pub returns-then-not-is_at_hand : goal.returns-then-not-is_at_hand
+returns-then-not-is_at_hand g c =
     let h = view g.H.Host.meaning c.args.heap.now in
     let xs = c.args.buffer.now in
     let away : at_hand c.args.hands.now c.args.m c.args.page ≡ false = search rules in

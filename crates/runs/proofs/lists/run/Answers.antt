@@ -10,7 +10,7 @@ use Rattle.runs.proofs.lists.run.Goals as goal
 
 pub carry-out-all-requires : goal.carry_out_all-requires
 carry-out-all-requires g c =
-    let made = c.in-ok-heap.ensures in
+    let made = c.in_ok-heap.ensures in
     λ ls. (enough (g.H.Host.meaning c.args.host) (length c.args.answers.now) (length c.args.calls.now) made.0 (search rules), λ m. ap (λ h. h.state m) made.1)
 
 pub returns : goal.returns
@@ -21,11 +21,11 @@ returns g c =
     let xs = c.args.buffer.now in
     let cs = c.args.calls.now in
     let old = c.args.answers.now in
-    let made = c.in-ok-heap.ensures in
+    let made = c.in_ok-heap.ensures in
     let lacks : (eqb ((means h).page_count % 2) 0 && ltb (length old) (length cs)) ≡ false = search rules in
     let enough-places = enough (means h) (length old) (length cs) made.0 lacks in
     let back = c.into_parts.ensures in
-    let on = subst (λ m. CarriedOn L (with_buffer (view means c.in-ok-heap.heap) xs) (all_within (length xs) cs) old c.carry_out_all.new.answers c.carry_out_all.new.buffer m) (sym (ap (λ p. means p.0) back)) c.carry_out_all.ensures.carried in
+    let on = subst (λ m. CarriedOn L (with_buffer (view means c.in_ok-heap.heap) xs) (all_within (length xs) cs) old c.carry_out_all.new.answers c.carry_out_all.new.buffer m) (sym (ap (λ p. means p.0) back)) c.carry_out_all.ensures.carried in
     let start = both_made (means h).page_count (means h).page_size (image_view xs) in (
       not_refused (means h) (length old) (length cs) _ lacks ∙ made_when_even (means h) made.0,
       carried_out L g.met.L.Layout.lawful start (at_make (means h).page_count (means h).page_size (g.met.H.Host.sized h) made.0 (image_view xs)) (all_within (length xs) cs) old c.carry_out_all.new.answers c.carry_out_all.new.buffer (means c.into_parts.result.0) (omega (arith, as_long (length xs) cs, enough-places))

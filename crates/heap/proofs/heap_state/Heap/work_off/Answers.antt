@@ -9,6 +9,6 @@ returns g c =
     let h = seen c.args.self.now in
     let moved = c.advance-2.ensures in
     record {
-      writes = worked_off g.L.Layout.rules h c.args.buffer.now c.args.m c.args.page (search rules) (ap is_some (sym moved.state) ∙ c.if-is-none.ensures) (seen c.advance-2.new.self) (seen c.serve.new.self) c.serve.new.buffer c.serve.result moved.after c.serve.ensures.served;
+      writes = worked_off g.L.Layout.rules h c.args.buffer.now c.args.m c.args.page (search rules) (ap is_some (sym moved.state) ∙ c.if-is_none.ensures) (seen c.advance-2.new.self) (seen c.serve.new.self) c.serve.new.buffer c.serve.result moved.after c.serve.ensures.served;
       layout = c.serve.ensures.layout ∙ moved.layout;
     }

@@ -13,8 +13,8 @@ returns-then-count-eq0 g c =
       least = λ old. old;
     }
 
-pub overflow-add-stop : goal.overflow-add-stop
-overflow-add-stop g c =
+pub overflow_add-stop : goal.overflow_add-stop
+overflow_add-stop g c =
     let s = c.args.self.now in
     let few = few_small (g.H.Host.meaning s.below) s.parts (g.met.H.Host.sized s.below) in
     search rules

@@ -4,13 +4,18 @@ use Rattle.memory.proofs.Memories.{same_memory}
 use Rattle.table_host.proofs.Translation.{frame_after, right_after, within_after, apart_after}
 use Rattle.table_host.proofs.table.TableHost.mark.Goals as goal
 
-pub invariant-of-self : goal.invariant-of-self
-invariant-of-self c =
+pub invariant_of-self : goal.invariant_of-self
+invariant_of-self c =
     let h = c.args.self.now in
     let e = c.with_right-entry.result in
     let room : c.args.p < length h.entries = search rules in
     let same = c.with_right-entry.ensures.frame in
-    (h.sized, (h.room, (within_after h.entries h.page_count c.args.p e room same h.within, (apart_after h.entries h.page_count c.args.p e room same h.apart, search rules))))
+    record {
+      sized = h.sized;
+      room = h.room;
+      within = within_after h.entries h.page_count c.args.p e room same h.within;
+      apart = apart_after h.entries h.page_count c.args.p e room same h.apart;
+    }
 
 pub returns : goal.returns
 returns c =
