@@ -1,70 +1,90 @@
 -- The answers so far and those still to come are those of the whole list.
-use Rattle.std.proofs.Common.{◌≡◌, ℕ, suc, ◌+◌, ◌<◌, ◌≤◌, List, [], ◌∷◌, ◌++◌, length, get_or, take, drop, set, sym, refl, ap, ◌∙◌, subst, append_assoc, append-nil, arith}
+use Rattle.std.proofs.Common.{◌≡◌, ℕ, suc, ◌+◌, ◌%◌, ◌<◌, ◌≤◌, true, List, [], ◌∷◌, ◌++◌, length, get_or, take, drop, set, sym, refl, ap, ◌∙◌, subst, append_assoc, append-nil, arith}
 use Rattle.std.proofs.lemmas.List.{at_drop_more, at_drop_all, take_more_set, drop-set-lt}
-use Rattle.memory.specs.Memory.{Memory}
-use Rattle.layouts.specs.Layouts.{Rules}
+use Rattle.memory.specs.Memory.{Memory, legal_sizes}
+use Rattle.layouts.specs.Layouts.{Rules, Lawful}
 use Rattle.model.specs.Heap.{Heap as Model}
-use Rattle.model.specs.Outcomes.{Machine, outcome}
-use Rattle.model.specs.Calls.{call, after, answers}
+use Rattle.model.specs.Outcomes.{Machine}
+use Rattle.model.specs.Calls.{made, after, answers}
 use Rattle.model.specs.declared.calls.Answer.{Answer}
-use Rattle.model.specs.declared.calls.Call.{Call}
-use Rattle.runs.specs.Calls.{within, all_within}
-use Rattle.runs.specs.Lists.{with_buffer, Carries, CarriedOn}
+use Rattle.heap.specs.Effects.{Does}
+use Rattle.theory.specs.Mutating.{is_mutator_call, OnlyMutatorCalls}
+use Rattle.theory.proofs.Related.{mutators_answer_as_if_nothing_moved}
+use Rattle.runs.specs.Lists.{as_call, as_calls, AsIfNothingMoved}
+use Rattle.runs.specs.declared.lists.MutatorCall.{MutatorCall}
+use Rattle.runs.specs.declared.lists.MutatorCall.TheVariants.{New, Load, Store, Copy, SetNumber, SetNil, Same, Tell, Count}
 
--- the answers still to give, and where the calls lead, with a buffer of n words
-abbrev pub rest : Rules → ℕ → Machine → List Call → List Answer
-rest L n x cs = answers L x (all_within n cs)
+abbrev pub machine : Model → (ℕ → ℕ) → Machine
+machine h b = record { heap = h; buffer = b }
 
-abbrev pub goal : Rules → ℕ → Machine → List Call → Machine
-goal L n x cs = after L x (all_within n cs)
+-- the answers that a heap has still to give
+abbrev pub rest : Rules → Model → (ℕ → ℕ) → List MutatorCall → List Answer
+rest L h b cs = answers L (machine h b) (as_calls cs)
+
+-- where a heap has still to come to
+abbrev pub goal : Rules → Model → (ℕ → ℕ) → List MutatorCall → Machine
+goal L h b cs = after L (machine h b) (as_calls cs)
 
 -- After i calls: the first i places have their answers, the others are as they were, and what is left leads to the end
-pub record Reached (L : Rules) (n : ℕ) (cs : List Call) (start : Machine) (old : List Answer) (i : ℕ) (h : Model) (xs : List ℕ) (new : List Answer) : Type 0 where
-  pub said : take i new ++ rest L n (with_buffer h xs) (drop i cs) ≡ rest L n start cs
-  pub goes : goal L n (with_buffer h xs) (drop i cs) ≡ goal L n start cs
-  pub others : (k : ℕ) → i ≤ k → drop k new ≡ drop k old
-  pub long : length xs ≡ n
+pub record Reached (L : Rules) (cs : List MutatorCall) (start : Model) (old : List Answer) (i : ℕ) (h : Model) (new : List Answer) : Type 0 where
+  pub said : (b : ℕ → ℕ) → take i new ++ rest L h b (drop i cs) ≡ rest L start b cs
+  pub goes : (b : ℕ → ℕ) → goal L h b (drop i cs) ≡ goal L start b cs
+  pub others : (n : ℕ) → i ≤ n → drop n new ≡ drop n old
 
-pub at_start : (L : Rules) (cs : List Call) (h : Model) (xs : List ℕ) (old : List Answer) → Reached L (length xs) cs (with_buffer h xs) old 0 h xs old
-at_start L cs h xs old = record { said = refl; goes = refl; others = λ k e. refl; long = refl }
+pub at_start : (L : Rules) (cs : List MutatorCall) (start : Model) (old : List Answer) → Reached L cs start old 0 start old
+at_start L cs start old = record { said = λ b. refl; goes = λ b. refl; others = λ n h. refl }
 
-pub one_more : (L : Rules) (n : ℕ) (cs : List Call) (start : Machine) (old : List Answer) (i : ℕ) (h g : Model) (xs ys : List ℕ) (new : List Answer) (d : Call) (a : Answer) → i < length cs → i < length new → Carries L h xs (get_or cs i d) g ys a → length ys ≡ length xs → Reached L n cs start old i h xs new → Reached L n cs start old (i + 1) g ys (set new i a)
-one_more L n cs start old i h g xs ys new d a lt in_row did same so_far =
-    let c = get_or cs i d in
-    let more = drop (i + 1) cs in
-    let x = with_buffer h xs in
-    let fits = subst (λ k. call L x (within k c) ≡ outcome (with_buffer g ys) a) so_far.long did in
-    record {
-      said =
-          let here : rest L n x (drop i cs) ≡ rest L n x (c ∷ more) = at_drop_more (rest L n x) cs i d lt in
-          let step : rest L n x (c ∷ more) ≡ a ∷ rest L n (with_buffer g ys) more = ap (λ o. o.answer ∷ answers L o.left (all_within n more)) fits in
-          ap (λ zs. zs ++ rest L n (with_buffer g ys) more) (take_more_set new i a in_row) ∙ append_assoc (take i new) (a ∷ []) _ ∙ sym (ap (λ zs. take i new ++ zs) (here ∙ step)) ∙ so_far.said;
-      goes =
-          let here : goal L n x (drop i cs) ≡ goal L n x (c ∷ more) = at_drop_more (goal L n x) cs i d lt in
-          let step : goal L n x (c ∷ more) ≡ goal L n (with_buffer g ys) more = ap (λ o. after L o.left (all_within n more)) fits in
-          sym (here ∙ step) ∙ so_far.goes;
-      others = λ k e. drop-set-lt k new i a (omega arith) ∙ so_far.others k (omega arith);
-      long = same ∙ so_far.long;
-    }
+pub one_more : (L : Rules) (cs : List MutatorCall) (start : Model) (old : List Answer) (i : ℕ) (h g : Model) (new : List Answer) (d : MutatorCall) (a : Answer) → i < length cs → i < length new → Does L h (as_call (get_or cs i d)) g a → Reached L cs start old i h new → Reached L cs start old (i + 1) g (set new i a)
+one_more L cs start old i h g new d a lt in_row did so_far = record {
+  said = λ b.
+      let here : rest L h b (drop i cs) ≡ rest L h b (get_or cs i d ∷ drop (i + 1) cs) = at_drop_more (rest L h b) cs i d lt in
+      let step : rest L h b (get_or cs i d ∷ drop (i + 1) cs) ≡ a ∷ rest L g b (drop (i + 1) cs) = ap (λ o. o.answer ∷ answers L o.left (as_calls (drop (i + 1) cs))) (did b) in
+      ap (λ xs. xs ++ rest L g b (drop (i + 1) cs)) (take_more_set new i a in_row) ∙ append_assoc (take i new) (a ∷ []) _ ∙ sym (ap (λ xs. take i new ++ xs) (here ∙ step)) ∙ so_far.said b;
+  goes = λ b.
+      let here : goal L h b (drop i cs) ≡ goal L h b (get_or cs i d ∷ drop (i + 1) cs) = at_drop_more (goal L h b) cs i d lt in
+      let step : goal L h b (get_or cs i d ∷ drop (i + 1) cs) ≡ goal L g b (drop (i + 1) cs) = ap (λ o. after L o.left (as_calls (drop (i + 1) cs))) (did b) in
+      sym (here ∙ step) ∙ so_far.goes b;
+  others = λ n h. drop-set-lt n new i a (omega arith) ∙ so_far.others n (omega arith);
+}
 
-pub as_long : (n : ℕ) (cs : List Call) → length (all_within n cs) ≡ length cs
-as_long n [] = refl
-as_long n (c ∷ cs) = ap suc (as_long n cs)
+pub as_long : (cs : List MutatorCall) → length (as_calls cs) ≡ length cs
+as_long [] = refl
+as_long (c ∷ cs) = ap suc (as_long cs)
 
-module _ (L : Rules) (n : ℕ) (cs : List Call) (start : Machine) (old : List Answer) (i : ℕ) (h : Model) (xs : List ℕ) (new : List Answer) (all : i ≡ length cs) (so_far : Reached L n cs start old i h xs new) where
-  counted : i ≡ length (all_within n cs)
-  counted = all ∙ sym (as_long n cs)
+module _ (L : Rules) (cs : List MutatorCall) (start : Model) (old : List Answer) (i : ℕ) (h : Model) (new : List Answer) (all : i ≡ length cs) (so_far : Reached L cs start old i h new) where
+  long : i ≡ length (as_calls cs)
+  long = all ∙ sym (as_long cs)
 
   past : length cs ≤ i
   past = omega arith
 
-  gone : with_buffer h xs ≡ goal L n start cs
-  gone = sym (at_drop_all (goal L n (with_buffer h xs)) cs i past) ∙ so_far.goes
+  pub all_said : (b : ℕ → ℕ) → take (length (as_calls cs)) new ≡ rest L start b cs
+  all_said b = ap (λ n. take n new) (sym long) ∙ sym (ap (λ xs. take i new ++ xs) (at_drop_all (rest L h b) cs i past) ∙ append-nil (take i new)) ∙ so_far.said b
 
-  pub all_carried : (m : Memory) → m ≡ h.memory → CarriedOn L start (all_within n cs) old new xs m
-  all_carried m is = record {
-    answered = ap (λ k. take k new) (sym counted) ∙ sym (ap (λ zs. take i new ++ zs) (at_drop_all (rest L n (with_buffer h xs)) cs i past) ∙ append-nil (take i new)) ∙ so_far.said;
-    others = so_far.others (length (all_within n cs)) (omega (arith, counted));
-    buffer_left = ap (λ x. x.buffer) gone;
-    memory = is ∙ ap (λ x. x.heap.memory) gone;
-  }
+  pub all_others : drop (length (as_calls cs)) new ≡ drop (length (as_calls cs)) old
+  all_others = so_far.others (length (as_calls cs)) (omega (arith, long))
+
+  pub all_gone : (b : ℕ → ℕ) → machine h b ≡ goal L start b cs
+  all_gone b = sym (at_drop_all (goal L h b) cs i past) ∙ so_far.goes b
+
+-- every call of such a list is a mutator's
+one_mutator : (c : MutatorCall) → is_mutator_call (as_call c) ≡ true
+one_mutator (New m d r w) = refl
+one_mutator (Load m d s i) = refl
+one_mutator (Store m s i x) = refl
+one_mutator (Copy m d f s) = refl
+one_mutator (SetNumber m d n) = refl
+one_mutator (SetNil m d) = refl
+one_mutator (Same m l r) = refl
+one_mutator (Tell m s) = refl
+one_mutator Count = refl
+
+pub only_mutators : (cs : List MutatorCall) → OnlyMutatorCalls (as_calls cs)
+only_mutators [] = tt
+only_mutators (c ∷ cs) = (one_mutator c, only_mutators cs)
+
+-- answers that are the moving heap's are those of the heap that never moves an object
+pub as_if : (L : Rules) (m : Memory) (cs : List MutatorCall) (all : List Answer) → Lawful L → legal_sizes m.page_count m.page_size ≡ true → m.page_count % 2 ≡ 0 → all ≡ rest L (made m.page_count m.page_size) (λ j. 0) cs → AsIfNothingMoved L m (as_calls cs) all
+as_if L m cs all lawful sized even is =
+    let agree = mutators_answer_as_if_nothing_moved L lawful m.page_count m.page_size sized even (λ j. 0) (as_calls cs) (only_mutators cs) in
+    subst (AsIfNothingMoved L m (as_calls cs)) (sym is) agree

@@ -1,7 +1,5 @@
 #![tactic(auto)]
 
-mod answer_forms;
-mod fault_calls;
 pub mod lists;
 
-pub use lists::{run, run_restored};
+pub use lists::{MutatorCall, run};

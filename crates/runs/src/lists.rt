@@ -1,209 +1,168 @@
-ghost use Rattle.std.specs.Prelude.{◌≡◌, ℕ, ◌%◌, ◌≤◌, ◌&&◌, length, ◌==◌, nat_lt};
-ghost use Rattle.std.specs.declared.option.Option.TheVariants as Option;
-ghost use Rattle.model.specs.Checkpoints.{RestoredHeapsWriteTheirImage};
-ghost use Rattle.model.specs.Restoring.{restore_refusal};
-ghost use Rattle.model.specs.Starts.{both_made, both_restored};
-ghost use Rattle.model.specs.declared.calls.Call.TheVariants as Call;
-ghost use Rattle.restoring.specs.Restored.{image_view};
+ghost use Rattle.std.specs.Prelude.{◌≡◌};
 ghost use Rattle.heap.specs.View.{view};
-ghost use Rattle.runs.specs.Calls.{fault_call, all_within};
-ghost use Rattle.runs.specs.Hands.{HandsMatch, AllRun};
-ghost use Rattle.runs.specs.Lists.{Carries, CarriedOn, with_buffer, make_refusal, Ran};
+ghost use Rattle.heap.specs.Effects.{Does, access_answer, done_answer, same_answer, tell_answer};
+ghost use Rattle.runs.specs.Lists.{as_call, Ran};
 
-use super::answer_forms::{access, done, flipped, same, saved, stepped, told};
-use super::fault_calls::{FaultCall, as_fault_call, give_back, resolve, take};
-use heap::{Fault, Heap};
+use heap::{Access, Heap};
 use layouts::Layout;
 use memory::{Host, Refusal, Rejected};
-use model::{Answer, Call as ListedCall};
+use model::{Answer, Kind};
 
-// MARK, lent so many words of the buffer, or all of them if it has fewer.
-fn mark<H: Host, L: Layout>(heap: &mut Heap<H, L>, buffer: &mut [u32], lent: usize) -> Answer
-    ensures carries { Carries L.Layout.rules (view H.Host.meaning heap.old) buffer.old (Call.Mark lent) (view H.Host.meaning heap.new) buffer.new result }
-    ensures layout { heap.new.layout ≡ heap.old.layout }
-{
-    let words = lent.min(buffer.len());
-    done(heap.mark(&mut buffer[..words]))
+/// A mutator's call, with its arguments.
+#[derive(Clone, Copy)]
+pub enum MutatorCall {
+    New {
+        mutator: u32,
+        register: u32,
+        references: u32,
+        numbers: u32,
+    },
+    Load {
+        mutator: u32,
+        register: u32,
+        object: u32,
+        slot: u32,
+    },
+    Store {
+        mutator: u32,
+        object: u32,
+        slot: u32,
+        value: u32,
+    },
+    Copy {
+        mutator: u32,
+        register: u32,
+        source: u32,
+        from: u32,
+    },
+    SetNumber {
+        mutator: u32,
+        register: u32,
+        number: u32,
+    },
+    SetNil {
+        mutator: u32,
+        register: u32,
+    },
+    Same {
+        mutator: u32,
+        left: u32,
+        right: u32,
+    },
+    Tell {
+        mutator: u32,
+        register: u32,
+    },
+    Count,
 }
 
-// SAVE, likewise.
-fn save<H: Host, L: Layout>(heap: &mut Heap<H, L>, buffer: &mut [u32], lent: usize) -> Answer
-    ensures carries { Carries L.Layout.rules (view H.Host.meaning heap.old) buffer.old (Call.Save lent) (view H.Host.meaning heap.new) buffer.new result }
-    ensures layout { heap.new.layout ≡ heap.old.layout }
+fn access(res: Result<Access, Refusal>) -> Answer
+    ensures { result ≡ access_answer res }
 {
-    let words = lent.min(buffer.len());
-    saved(heap.save(&mut buffer[..words]))
+    match res {
+        Ok(Access::Done) => Answer::Done,
+        Ok(Access::Trapped(page)) => Answer::Trapped(page),
+        Err(refusal) => Answer::Refused(refusal),
+    }
 }
 
-// Carries out a call that is neither TAKE nor RESOLVE.
-fn carry_out_plain<H: Host, L: Layout>(
-    heap: &mut Heap<H, L>,
-    buffer: &mut [u32],
-    call: ListedCall,
-) -> Answer
-    requires { fault_call call ≡ Option.None }
-    ensures carries { Carries L.Layout.rules (view H.Host.meaning heap.old) buffer.old call (view H.Host.meaning heap.new) buffer.new result }
+fn done(res: Result<(), Refusal>) -> Answer
+    ensures { result ≡ done_answer res }
+{
+    match res {
+        Ok(()) => Answer::Done,
+        Err(refusal) => Answer::Refused(refusal),
+    }
+}
+
+fn same(res: Result<bool, Refusal>) -> Answer
+    ensures { result ≡ same_answer res }
+{
+    match res {
+        Ok(equal) => Answer::Same(equal),
+        Err(refusal) => Answer::Refused(refusal),
+    }
+}
+
+fn told(res: Result<Kind, Refusal>) -> Answer
+    ensures { result ≡ tell_answer res }
+{
+    match res {
+        Ok(kind) => Answer::Kind(kind),
+        Err(refusal) => Answer::Refused(refusal),
+    }
+}
+
+// Carries out one call.
+fn carry_out<H: Host, L: Layout>(heap: &mut Heap<H, L>, call: MutatorCall) -> Answer
+    ensures does { Does L.Layout.rules (view H.Host.meaning heap.old) (as_call call) (view H.Host.meaning heap.new) result }
     ensures layout { heap.new.layout ≡ heap.old.layout }
 {
     match call {
-        ListedCall::New {
+        MutatorCall::New {
             mutator,
             register,
             references,
             numbers,
         } => access(heap.new_object(mutator, register, references, numbers)),
-        ListedCall::Load {
+        MutatorCall::Load {
             mutator,
             register,
             object,
             slot,
         } => access(heap.load(mutator, register, object, slot)),
-        ListedCall::Store {
+        MutatorCall::Store {
             mutator,
             object,
             slot,
             value,
         } => access(heap.store(mutator, object, slot, value)),
-        ListedCall::Copy {
+        MutatorCall::Copy {
             mutator,
             register,
             source,
             from,
         } => done(heap.copy(mutator, register, source, from)),
-        ListedCall::SetNumber {
+        MutatorCall::SetNumber {
             mutator,
             register,
             number,
         } => done(heap.set_number(mutator, register, number)),
-        ListedCall::SetNil { mutator, register } => done(heap.set_nil(mutator, register)),
-        ListedCall::Same {
+        MutatorCall::SetNil { mutator, register } => done(heap.set_nil(mutator, register)),
+        MutatorCall::Same {
             mutator,
             left,
             right,
         } => same(heap.same(mutator, left, right)),
-        ListedCall::Tell { mutator, register } => told(heap.tell(mutator, register)),
-        ListedCall::Count => Answer::Count(heap.count()),
-        ListedCall::Flip => flipped(heap.flip()),
-        ListedCall::Step => stepped(heap.step()),
-        ListedCall::Mark { lent } => mark(heap, buffer, lent),
-        ListedCall::Save { lent } => save(heap, buffer, lent),
-        ListedCall::Take { .. } | ListedCall::Resolve { .. } => unreachable(),
+        MutatorCall::Tell { mutator, register } => told(heap.tell(mutator, register)),
+        MutatorCall::Count => Answer::Count(heap.count()),
     }
-}
-
-// RESOLVE, lent so many words of the buffer, or all of them if it has fewer.
-fn resolve_with<H: Host, L: Layout>(
-    heap: &mut Heap<H, L>,
-    hands: &mut [Option<Fault>; 4],
-    buffer: &mut [u32],
-    m: u32,
-    page: u32,
-    lent: usize,
-) -> Answer
-    requires { HandsMatch (view H.Host.meaning heap.old).state hands.old }
-    ensures carries { Carries L.Layout.rules (view H.Host.meaning heap.old) buffer.old (Call.Resolve m page lent) (view H.Host.meaning heap.new) buffer.new result }
-    ensures hands { HandsMatch (view H.Host.meaning heap.new).state hands.new }
-    ensures layout { heap.new.layout ≡ heap.old.layout }
-{
-    let words = lent.min(buffer.len());
-    resolve(heap, hands, m, page, &mut buffer[..words])
-}
-
-// Carries out one call.
-fn carry_out<H: Host, L: Layout>(
-    heap: &mut Heap<H, L>,
-    hands: &mut [Option<Fault>; 4],
-    buffer: &mut [u32],
-    call: ListedCall,
-) -> Answer
-    requires { HandsMatch (view H.Host.meaning heap.old).state hands.old }
-    ensures carries { Carries L.Layout.rules (view H.Host.meaning heap.old) buffer.old call (view H.Host.meaning heap.new) buffer.new result }
-    ensures hands { HandsMatch (view H.Host.meaning heap.new).state hands.new }
-    ensures layout { heap.new.layout ≡ heap.old.layout }
-{
-    match as_fault_call(call) {
-        Some(FaultCall::Take { mutator }) => take(heap, hands, mutator),
-        Some(
-            FaultCall::Resolve {
-                mutator,
-                page,
-                lent,
-            },
-        ) => resolve_with(heap, hands, buffer, mutator, page, lent),
-        None => carry_out_plain(heap, buffer, call),
-    }
-}
-
-// Carries out a list of calls, and writes an answer to each into the places for answers.
-fn carry_out_all<H: Host, L: Layout>(
-    heap: &mut Heap<H, L>,
-    calls: &[ListedCall],
-    buffer: &mut [u32],
-    answers: &mut [Answer],
-)
-    requires { (length calls.now ≤ length answers.old) × (AllRun (view H.Host.meaning heap.old).state) }
-    ensures carried { CarriedOn L.Layout.rules (with_buffer (view H.Host.meaning heap.old) buffer.old) (all_within (length buffer.old) calls.now) answers.old answers.new buffer.new (view H.Host.meaning heap.new).memory }
-    ensures layout { heap.new.layout ≡ heap.old.layout }
-{
-    let mut hands: [Option<Fault>; 4] = [None, None, None, None];
-    for (i, call) in calls.iter().enumerate() {
-        answers[i] = carry_out(heap, &mut hands, buffer, *call);
-    }
-    give_back(heap, hands);
-}
-
-// Whether there are too few places for the answers; an odd page count is refused before that.
-fn lacks_places<H: Host>(host: &H, calls: &[ListedCall], answers: &[Answer]) -> bool
-    ensures { result ≡ ((H.Host.meaning host.now).page_count % 2 == 0 && nat_lt (length answers.now) (length calls.now)) }
-{
-    host.page_count() % 2 == 0 && answers.len() < calls.len()
 }
 
 /// Makes a heap on a host, carries out a list of calls, and writes an answer to each into the places for answers. They are the
 /// answers of a heap that never moves an object. Host and layout come back.
 ///
-/// Refused, with nothing altered, for an odd page count, then for fewer places than calls. Each call that wants a buffer is lent
-/// the first words of this one, as many as the call says, or all of them if there are fewer.
+/// Refused, with nothing altered, for an odd page count, then for fewer places than calls. The buffer is lent to the calls that
+/// write images; none of these does, and it stays as it is.
 pub fn run<H: Host, L: Layout>(
     host: H,
     layout: L,
-    calls: &[ListedCall],
+    calls: &[MutatorCall],
     buffer: &mut [u32],
     answers: &mut [Answer],
 ) -> Result<(H, L), Rejected<(H, L)>>
-    ensures { Ran L.Layout.rules H.Host.meaning (make_refusal (H.Host.meaning host)) (both_made (H.Host.meaning host).page_count (H.Host.meaning host).page_size (image_view buffer.old)) host layout calls.now answers.old answers.new buffer.old buffer.new result }
+    ensures ran { Ran L.Layout.rules H.Host.meaning host layout calls.now answers.old answers.new result }
+    ensures buffer { buffer.new ≡ buffer.old }
 {
-    if lacks_places(&host, calls, answers) {
+    if host.page_count() % 2 == 0 && answers.len() < calls.len() {
         return Err(Rejected {
             refusal: Refusal::Short,
             given: (host, layout),
         });
     }
     let mut heap = Heap::make(host, layout)?;
-    carry_out_all(&mut heap, calls, buffer, answers);
-    Ok(heap.into_parts())
-}
-
-/// The same on a heap that is restored from an image. Refused for an odd page count, then for fewer places than calls or words
-/// than the image takes, then as the image is.
-pub fn run_restored<H: Host, L: Layout>(
-    host: H,
-    layout: L,
-    image: &[u32],
-    calls: &[ListedCall],
-    buffer: &mut [u32],
-    answers: &mut [Answer],
-) -> Result<(H, L), Rejected<(H, L)>>
-    ensures ran { Ran L.Layout.rules H.Host.meaning (restore_refusal L.Layout.rules (H.Host.meaning host) (length image.now) (image_view image.now)) (both_restored L.Layout.rules (H.Host.meaning host) (image_view image.now) (image_view buffer.old)) host layout calls.now answers.old answers.new buffer.old buffer.new result }
-    ensures again { RestoredHeapsWriteTheirImage L.Layout.rules (H.Host.meaning host) }
-{
-    if lacks_places(&host, calls, answers) {
-        return Err(Rejected {
-            refusal: Refusal::Short,
-            given: (host, layout),
-        });
+    for (i, call) in calls.iter().enumerate() {
+        answers[i] = carry_out(&mut heap, *call);
     }
-    let mut heap = Heap::restore(host, layout, image)?;
-    carry_out_all(&mut heap, calls, buffer, answers);
     Ok(heap.into_parts())
 }

@@ -1,33 +1,48 @@
 #![tactic(auto)]
 
 mod actions;
-mod answers;
-mod checkpoint;
-mod collection;
-mod every_host;
-mod hosts;
 mod makers;
-mod stories;
 mod tariff;
-mod zone_calls;
 mod zones;
 
 use actions::show;
 use anyhow::anyhow;
-use every_host::{show_collections, show_images};
-use hosts::{check_host, pile, small_pages, table_host, words};
+use check_host::CheckHost;
 use layouts::{Split, Tagged};
 use makers::{try_check, try_layer, try_table};
 use memory::Host;
 use model::Answer;
+use small_pages::SmallPages;
 use std::alloc::Global;
+use table_host::TableHost;
 use tariff::{CALLS, compare_tariff, show_tariff};
+
+// The frames of the tour's table host, page by page.
+const FRAMES: [u32; 8] = [7, 6, 5, 4, 3, 2, 1, 0];
 
 // Both layouts on a host.
 fn both<H: Host>(rt: &impl Print, name: &str, host: &mut H) -> anyhow::Result<()> {
     println!(rt; "{name}")?;
     show(rt, host, &Tagged)?;
     show(rt, host, &Split)
+}
+
+fn words(heap: Global, count: usize) -> anyhow::Result<Vec<u32>> {
+    Ok(vec![in heap; 0u32; count]?)
+}
+
+fn check_host(heap: Global, pages: u32, size: u32) -> anyhow::Result<CheckHost> {
+    match CheckHost::make(words(heap, 256)?, pages, size) {
+        Ok(host) => Ok(host),
+        Err(_) => Err(anyhow!("no check host")),
+    }
+}
+
+fn layer<H: Host + Drop>(host: H, k: u32) -> anyhow::Result<SmallPages<H>> {
+    match SmallPages::make(host, k) {
+        Ok(layer) => Ok(layer),
+        Err(_) => Err(anyhow!("no layer")),
+    }
 }
 
 // Hosts that are refused, and what is handed back.
@@ -64,6 +79,20 @@ fn show_refusals(rt: &impl Print, heap: Global) -> anyhow::Result<()> {
     Ok(())
 }
 
+fn table_host(heap: Global) -> anyhow::Result<TableHost> {
+    match TableHost::make(words(heap, 256)?, &FRAMES, 8, 32) {
+        Ok(host) => Ok(host),
+        Err(_) => Err(anyhow!("no table host")),
+    }
+}
+
+fn pile(heap: Global) -> anyhow::Result<SmallPages<SmallPages<TableHost>>> {
+    let Ok(base) = TableHost::make(words(heap, 256)?, &[1, 0], 2, 128) else {
+        return Err(anyhow!("no table host"));
+    };
+    layer(layer(base, 2)?, 2)
+}
+
 // A tariff on heaps over every kind of host, in both layouts.
 fn show_heaps(rt: &impl Print, heap: Global) -> anyhow::Result<()> {
     let mut answers = [Answer::Done; CALLS];
@@ -79,28 +108,28 @@ fn show_heaps(rt: &impl Print, heap: Global) -> anyhow::Result<()> {
     compare_tariff(
         rt,
         "table host, layout 1",
-        table_host(heap, 8, 32)?,
+        table_host(heap)?,
         Tagged,
         &answers,
     )?;
     compare_tariff(
         rt,
         "table host, layout 2",
-        table_host(heap, 8, 32)?,
+        table_host(heap)?,
         Split,
         &answers,
     )?;
     compare_tariff(
         rt,
         "small pages, layout 1",
-        small_pages(heap, 8, 32)?,
+        layer(check_host(heap, 4, 64)?, 2)?,
         Tagged,
         &answers,
     )?;
     compare_tariff(
         rt,
         "a pile of small pages, layout 2",
-        pile(heap, 8)?,
+        pile(heap)?,
         Split,
         &answers,
     )
@@ -111,22 +140,19 @@ fn main(rt: HostRuntime) -> anyhow::Result<()> {
     show_refusals(&rt, heap)?;
     let mut check = check_host(heap, 8, 32)?;
     both(&rt, "check host", &mut check)?;
-    let mut table = table_host(heap, 8, 32)?;
+    let mut table = table_host(heap)?;
     both(&rt, "table host", &mut table)?;
-    let mut small = small_pages(heap, 8, 32)?;
+    let mut small = layer(check_host(heap, 4, 64)?, 2)?;
     both(
         &rt,
         "small pages, two of each page of a check host",
         &mut small,
     )?;
-    let mut piled = pile(heap, 8)?;
+    let mut piled = pile(heap)?;
     both(
         &rt,
         "small pages over small pages over a table host",
         &mut piled,
     )?;
-    show_heaps(&rt, heap)?;
-    show_collections(&rt, heap, 8, 32)?;
-    show_collections(&rt, heap, 16, 16)?;
-    show_images(&rt, heap)
+    show_heaps(&rt, heap)
 }

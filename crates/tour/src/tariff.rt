@@ -1,9 +1,8 @@
-use super::answers::{Shown, same_answer};
 use anyhow::anyhow;
 use layouts::Layout;
 use memory::Host;
-use model::{Answer, Call};
-use runs::run;
+use model::{Answer, Kind};
+use runs::{MutatorCall, run};
 
 /// How many calls the tariff takes.
 pub const CALLS: usize = 26;
@@ -39,170 +38,164 @@ const PURPOSES: [&str; CALLS] = [
 ];
 
 // A zone has slot 0 for the zone around it and slot 1 for its tariff number.
-fn tariff() -> [Call; CALLS] {
+fn tariff() -> [MutatorCall; CALLS] {
     [
-        Call::New {
+        MutatorCall::New {
             mutator: 0,
             register: 0,
             references: 1,
             numbers: 1,
         },
-        Call::SetNumber {
+        MutatorCall::SetNumber {
             mutator: 0,
             register: 7,
             number: 19,
         },
-        Call::Store {
+        MutatorCall::Store {
             mutator: 0,
             object: 0,
             slot: 1,
             value: 7,
         },
-        Call::New {
+        MutatorCall::New {
             mutator: 0,
             register: 1,
             references: 1,
             numbers: 1,
         },
-        Call::Store {
+        MutatorCall::Store {
             mutator: 0,
             object: 1,
             slot: 0,
             value: 0,
         },
-        Call::SetNumber {
+        MutatorCall::SetNumber {
             mutator: 0,
             register: 7,
             number: 7,
         },
-        Call::Store {
+        MutatorCall::Store {
             mutator: 0,
             object: 1,
             slot: 1,
             value: 7,
         },
-        Call::New {
+        MutatorCall::New {
             mutator: 0,
             register: 2,
             references: 1,
             numbers: 1,
         },
-        Call::Store {
+        MutatorCall::Store {
             mutator: 0,
             object: 2,
             slot: 0,
             value: 0,
         },
-        Call::Store {
+        MutatorCall::Store {
             mutator: 0,
             object: 2,
             slot: 1,
             value: 7,
         },
-        Call::Copy {
+        MutatorCall::Copy {
             mutator: 1,
             register: 0,
             source: 0,
             from: 1,
         },
-        Call::Copy {
+        MutatorCall::Copy {
             mutator: 1,
             register: 1,
             source: 0,
             from: 2,
         },
-        Call::Same {
+        MutatorCall::Same {
             mutator: 1,
             left: 0,
             right: 1,
         },
-        Call::Load {
+        MutatorCall::Load {
             mutator: 1,
             register: 2,
             object: 0,
             slot: 0,
         },
-        Call::Load {
+        MutatorCall::Load {
             mutator: 1,
             register: 3,
             object: 1,
             slot: 0,
         },
-        Call::Same {
+        MutatorCall::Same {
             mutator: 1,
             left: 2,
             right: 3,
         },
-        Call::Load {
+        MutatorCall::Load {
             mutator: 1,
             register: 4,
             object: 0,
             slot: 1,
         },
-        Call::Load {
+        MutatorCall::Load {
             mutator: 1,
             register: 5,
             object: 1,
             slot: 1,
         },
-        Call::Same {
+        MutatorCall::Same {
             mutator: 1,
             left: 4,
             right: 5,
         },
-        Call::Tell {
+        MutatorCall::Tell {
             mutator: 1,
             register: 4,
         },
-        Call::SetNil {
+        MutatorCall::SetNil {
             mutator: 4,
             register: 0,
         },
-        Call::New {
+        MutatorCall::New {
             mutator: 1,
             register: 6,
             references: 200,
             numbers: 56,
         },
-        Call::Load {
+        MutatorCall::Load {
             mutator: 1,
             register: 6,
             object: 6,
             slot: 0,
         },
-        Call::Load {
+        MutatorCall::Load {
             mutator: 1,
             register: 6,
             object: 0,
             slot: 2,
         },
-        Call::New {
+        MutatorCall::New {
             mutator: 1,
             register: 6,
             references: 0,
             numbers: 119,
         },
-        Call::Count,
+        MutatorCall::Count,
     ]
 }
 
-fn call_name(call: Call) -> &'static str {
+fn call_name(call: MutatorCall) -> &'static str {
     match call {
-        Call::New { .. } => "NEW",
-        Call::Load { .. } => "LOAD",
-        Call::Store { .. } => "STORE",
-        Call::Copy { .. } => "COPY",
-        Call::SetNumber { .. } => "SETNUM",
-        Call::SetNil { .. } => "SETNIL",
-        Call::Same { .. } => "SAME",
-        Call::Tell { .. } => "TELL",
-        Call::Count => "COUNT",
-        Call::Flip => "FLIP",
-        Call::Step => "STEP",
-        Call::Take { .. } => "TAKE",
-        Call::Resolve { .. } => "RESOLVE",
-        Call::Mark { .. } => "MARK",
-        Call::Save { .. } => "SAVE",
+        MutatorCall::New { .. } => "NEW",
+        MutatorCall::Load { .. } => "LOAD",
+        MutatorCall::Store { .. } => "STORE",
+        MutatorCall::Copy { .. } => "COPY",
+        MutatorCall::SetNumber { .. } => "SETNUM",
+        MutatorCall::SetNil { .. } => "SETNIL",
+        MutatorCall::Same { .. } => "SAME",
+        MutatorCall::Tell { .. } => "TELL",
+        MutatorCall::Count => "COUNT",
     }
 }
 
@@ -220,6 +213,51 @@ fn answers_on<H: Host + Drop, L: Layout + Drop>(
     }
 }
 
+fn show_kind(rt: &impl Print, name: &str, purpose: &str, kind: Kind) -> anyhow::Result<()> {
+    match kind {
+        Kind::Nil => println!(rt; "  {name}, {purpose}: nil")?,
+        Kind::Number(n) => println!(rt; "  {name}, {purpose}: the number {n}")?,
+        Kind::Reference => println!(rt; "  {name}, {purpose}: a reference")?,
+    }
+    Ok(())
+}
+
+fn show_answer(rt: &impl Print, name: &str, purpose: &str, answer: Answer) -> anyhow::Result<()> {
+    match answer {
+        Answer::Refused(refusal) => {
+            let number = refusal.number();
+            println!(rt; "  {name}, {purpose}: refused {number}")?
+        }
+        Answer::Trapped(page) => println!(rt; "  {name}, {purpose}: trapped on page {page}")?,
+        Answer::Same(true) => println!(rt; "  {name}, {purpose}: yes")?,
+        Answer::Same(false) => println!(rt; "  {name}, {purpose}: no")?,
+        Answer::Kind(kind) => show_kind(rt, name, purpose, kind)?,
+        Answer::Count(n) => println!(rt; "  {name}, {purpose}: {n}")?,
+        _ => println!(rt; "  {name}, {purpose}: done")?,
+    }
+    Ok(())
+}
+
+fn same_kind(a: Kind, b: Kind) -> bool {
+    match (a, b) {
+        (Kind::Nil, Kind::Nil) | (Kind::Reference, Kind::Reference) => true,
+        (Kind::Number(m), Kind::Number(n)) => m == n,
+        _ => false,
+    }
+}
+
+fn same_answer(a: Answer, b: Answer) -> bool {
+    match (a, b) {
+        (Answer::Refused(d), Answer::Refused(e)) => d.number() == e.number(),
+        (Answer::Trapped(p), Answer::Trapped(q)) => p == q,
+        (Answer::Done, Answer::Done) => true,
+        (Answer::Same(x), Answer::Same(y)) => x == y,
+        (Answer::Kind(k), Answer::Kind(l)) => same_kind(k, l),
+        (Answer::Count(m), Answer::Count(n)) => m == n,
+        _ => false,
+    }
+}
+
 /// Carries out the tariff on a heap and prints each call and its answer; they are left in the places for answers.
 pub fn show_tariff<H: Host + Drop, L: Layout + Drop>(
     rt: &impl Print,
@@ -230,10 +268,7 @@ pub fn show_tariff<H: Host + Drop, L: Layout + Drop>(
     let calls = tariff();
     answers_on(host, layout, answers)?;
     for i in 0..CALLS {
-        let name = call_name(calls[i]);
-        let purpose = PURPOSES[i];
-        let answer = Shown(answers[i]);
-        println!(rt; "  {name}, {purpose}: {answer}")?;
+        show_answer(rt, call_name(calls[i]), PURPOSES[i], answers[i])?;
     }
     Ok(())
 }
