@@ -6,7 +6,7 @@ use Rattle.std.proofs.lemmas.Bool.Decides.{nat_tests}
 use Rattle.theory.specs.Model.{map_v, Layout, upd, blit, sum_to, weight}
 use Rattle.layouts.specs.declared.values.Value.{Value}
 use Rattle.layouts.specs.declared.values.Value.TheVariants.{Nil, Number, Reference}
-use Rattle.theory.specs.Collect.{Laws, Heap, Flip, size, Reached, Clear, FlipOk, St, Pair, Alive, Inv, Side, Grows, Writes, Sets, Adds, Places, forward_regs}
+use Rattle.theory.specs.Collect.{Laws, Heap, Flip, size, Reached, Clear, FlipOk, St, Pair, Alive, LooseInv, LooseSide, Grows, Writes, Sets, Adds, Places, forward_regs}
 use Rattle.theory.specs.Reach.{closed_reached_words}
 use Rattle.theory.specs.Machine.{Shape, half, whole, Machine, Never, closed_is_idle, refs, head_of, ran_page, grant}
 use Rattle.model.specs.declared.states.State.{State}
@@ -82,7 +82,7 @@ module _ (H : Shape) (laws : Laws H.lay) (F : Flip) (st : St) (scan : ℕ → �
       other = λ q j ne. rw (ne_eqb q p ne);
     }
 
-    inv' : Inv L F (assign A p i v) st' g
+    inv' : LooseInv L F (assign A p i v) st' g
     inv' = rw (marked_same g (g.to p + suc i) (slot_done p i lp li r)) at (store_keeps L laws F b.ok A st g b.inv p i v lp li (slot_done p i lp li r) al ad st' (writes_upd st (g.to p + suc i) (L.pack (A.hdr p) i (map_v g.to v))) (assign A p i v) sets)
 
     phased' : (ph : Phase) → Phased H F st scan used A l u g ph → Phased H F st' scan used (assign A p i v) l u g ph
@@ -135,7 +135,7 @@ body_calm H F st scan sd used reg ph ph' A areg l n u right down up b =
       phased = up st' b.pair (record { all = o.all; every = o.every; limit = o.limit; words = o.words; complete = o.complete });
     }
   where
-    right_inv : (L : Layout) (F : Flip) (A : Heap) (s : St) (g : Pair) (right : ℕ → ℕ) → Inv L F A s g → Inv L F A (record { mem = s.mem; top = s.top; low = s.low; right = right; cross = s.cross }) g
+    right_inv : (L : Layout) (F : Flip) (A : Heap) (s : St) (g : Pair) (right : ℕ → ℕ) → LooseInv L F A s g → LooseInv L F A (record { mem = s.mem; top = s.top; low = s.low; right = right; cross = s.cross }) g
     right_inv L F A s g right inv = record {
       many = inv.many;
       heads = inv.heads;

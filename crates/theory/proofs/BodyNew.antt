@@ -6,7 +6,7 @@ use Rattle.std.proofs.lemmas.Bool.Decides.{nat_tests}
 use Rattle.theory.specs.Model.{map_v, Layout, upd, blit, sum_to, weight}
 use Rattle.layouts.specs.declared.values.Value.{Value}
 use Rattle.layouts.specs.declared.values.Value.TheVariants.{Nil, Number, Reference}
-use Rattle.theory.specs.Collect.{Laws, Heap, Flip, size, Reached, Clear, FlipOk, St, Pair, Alive, Inv, Side, Grows, Adds, Places}
+use Rattle.theory.specs.Collect.{Laws, Heap, Flip, size, Reached, Clear, FlipOk, St, Pair, Alive, LooseInv, LooseSide, Grows, Adds, Places}
 use Rattle.theory.specs.Machine.{Shape, half, whole}
 use Rattle.model.specs.declared.states.Phase.{Phase}
 use Rattle.model.specs.declared.states.Phase.TheVariants.{Idle, Collecting, Imaging}
@@ -88,7 +88,7 @@ module _ (H : Shape) (laws : Laws H.lay) (F : Flip) (st : St) (scan : ℕ → �
   abbrev g' : Pair
   g' = record { live = upd g.live A.many true; to = upd g.to A.many st'.low; done = span g.done st'.low st.low; limit = g.limit }
 
-  inv' : Inv L F A' st' g'
+  inv' : LooseInv L F A' st' g'
   inv' = new_keeps L F b.ok A st g b.inv (L.make r w) (initially r w) (λ i k. plain_initially r w i) (laws.made r w small).0 h_fits A' (appends L A r w) st' pl sp
 
   grows : Grows g g'

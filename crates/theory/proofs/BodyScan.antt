@@ -5,7 +5,7 @@ use Rattle.std.proofs.lemmas.Bool.{cases_eq, cases_lt, cases_Bool, both_ways, eq
 use Rattle.theory.specs.Model.{map_v, Layout, upd, blit, sum_to, weight}
 use Rattle.layouts.specs.declared.values.Value.{Value}
 use Rattle.layouts.specs.declared.values.Value.TheVariants.{Nil, Number, Reference}
-use Rattle.theory.specs.Collect.{Laws, Heap, Flip, size, Reached, Clear, FlipOk, St, Pair, Alive, Inv, Side, Grows, forward_regs}
+use Rattle.theory.specs.Collect.{Laws, Heap, Flip, size, Reached, Clear, FlipOk, St, Pair, Alive, LooseInv, LooseSide, Grows, forward_regs}
 use Rattle.theory.specs.Reach.{closed_reached_words}
 use Rattle.theory.specs.Machine.{Shape, half, whole, begins, ran_page, grant}
 use Rattle.model.specs.declared.states.Phase.{Phase}
@@ -85,7 +85,7 @@ module _ (H : Shape) (laws : Laws H.lay) (pos : 0 < H.page) (F : Flip) (st : St)
       abbrev g' : Pair
       g' = record { live = g.live; to = g.to; done = g.done; limit = st.top }
 
-      inv' : (s : St) → s.mem ≡ st.mem → s.top ≡ st.top → s.low ≡ st.low → Inv L F A s g'
+      inv' : (s : St) → s.mem ≡ st.mem → s.top ≡ st.top → s.low ≡ st.low → LooseInv L F A s g'
       inv' s em et el = let inv = b.inv in record {
         many = inv.many;
         heads = inv.heads;
@@ -149,10 +149,10 @@ module _ (H : Shape) (laws : Laws H.lay) (pos : 0 < H.page) (F : Flip) (st : St)
     pub used₂ : F₂.used ≡ U
     used₂ = omega (arith, us, b.inv.total, rest.words, b.low, b.inv.limits)
 
-    pub inv₂ : (right cross : ℕ → ℕ) → Inv L F₂ A (record { mem = st.mem; top = start; low = last; right = right; cross = cross }) g₂
+    pub inv₂ : (right cross : ℕ → ℕ) → LooseInv L F₂ A (record { mem = st.mem; top = start; low = last; right = right; cross = cross }) g₂
     inv₂ right cross = flip_keeps L F b.ok A st b.pair b.inv rest.all 32 areg alive start last (start + whole P U) halves small right cross (omega (arith, used₂)) fits
 
-    side₂ : (right cross : ℕ → ℕ) → Side L P F₂ A (record { mem = st.mem; top = start; low = last; right = right; cross = cross }) g₂
+    side₂ : (right cross : ℕ → ℕ) → LooseSide L P F₂ A (record { mem = st.mem; top = start; low = last; right = right; cross = cross }) g₂
     side₂ right cross = flip_side L F b.ok A st b.pair b.inv rest.all 32 areg alive start last (start + whole P U) halves small P right cross
 
     -- what was to-space lies inside

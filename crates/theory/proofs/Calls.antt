@@ -5,13 +5,13 @@ use Rattle.std.proofs.lemmas.Bool.Decides.{nat_tests}
 use Rattle.theory.specs.Model.{map_v, Layout, upd, blit, sum_to, weight}
 use Rattle.layouts.specs.declared.values.Value.{Value}
 use Rattle.layouts.specs.declared.values.Value.TheVariants.{Nil, Number, Reference}
-use Rattle.theory.specs.Collect.{Laws, Heap, Flip, size, Reached, Reached.root, Reached.step, Clear, FlipOk, St, Pair, Alive, Inv, Grows, Writes, Sets, Adds, Places}
+use Rattle.theory.specs.Collect.{Laws, Heap, Flip, size, Reached, Reached.root, Reached.step, Clear, FlipOk, St, Pair, Alive, LooseInv, Grows, Writes, Sets, Adds, Places}
 use Rattle.theory.proofs.Basics.{upd_same, upd_other, upd_at, sum_same, or_le, ref_inj, nil≢ref, num≢ref}
 use Rattle.theory.proofs.Copy.{near_map_v, in_to, map_v_same, alive_more}
 use Rattle.theory.proofs.Write.{marked, write_keeps}
 use Rattle.theory.proofs.Scan.{admits_map_v}
 
-module _ (L : Layout) (laws : Laws L) (F : Flip) (ok : FlipOk L F) (A : Heap) (s : St) (g : Pair) (inv : Inv L F A s g) where
+module _ (L : Layout) (laws : Laws L) (F : Flip) (ok : FlipOk L F) (A : Heap) (s : St) (g : Pair) (inv : LooseInv L F A s g) where
   -- what a LOAD of a scanned slot brings
   pub load_agrees : (p i : ℕ) → g.live p ≡ true → i < L.slots (A.hdr p) → g.done (g.to p + suc i) ≡ true → (L.unpack (A.hdr p) i (s.mem (g.to p + suc i)) ≡ map_v g.to (A.val p i)) × Alive g.live (A.val p i)
   load_agrees p i l b d =
@@ -20,7 +20,7 @@ module _ (L : Layout) (laws : Laws L) (F : Flip) (ok : FlipOk L F) (A : Heap) (s
 
   -- a STORE into a scanned slot
   pub store_keeps : (p i : ℕ) (v : Value) → g.live p ≡ true → i < L.slots (A.hdr p) → g.done (g.to p + suc i) ≡ true → Alive g.live v → L.admits (A.hdr p) i v ≡ true →
-      (s' : St) → Writes s s' (g.to p + suc i) (L.pack (A.hdr p) i (map_v g.to v)) → (A' : Heap) → Sets A A' p i v → Inv L F A' s' (marked g (g.to p + suc i))
+      (s' : St) → Writes s s' (g.to p + suc i) (L.pack (A.hdr p) i (map_v g.to v)) → (A' : Heap) → Sets A A' p i v → LooseInv L F A' s' (marked g (g.to p + suc i))
   store_keeps p i v l b d al ad s' w A' se = write_keeps L F ok A s g inv p i l b v al ad (λ x m e. inv.traced p i x l m b d e) s' w A' se
 
   -- one address, one place

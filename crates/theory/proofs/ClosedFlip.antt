@@ -18,7 +18,7 @@ use Rattle.model.specs.Collecting.{opened, words_used, flipped_memory, swapped, 
 use Rattle.model.specs.Outcomes.{Machine, with_heap}
 use Rattle.model.specs.Calls.{carried_out}
 use Rattle.theory.specs.Model.{Layout}
-use Rattle.theory.specs.Collect.{Flip as Flipping, FlipOk, St, Pair, Inv, forward_regs}
+use Rattle.theory.specs.Collect.{Flip as Flipping, FlipOk, St, Pair, LooseInv, forward_regs}
 use Rattle.theory.specs.Machine.{Shape, half, whole, Machine as Closed, Never as ClosedNeverMoving}
 use Rattle.theory.specs.Steps.{act, used_now, swapped as closed_swapped, turned}
 use Rattle.theory.specs.Closed.{closed_layout, both_halves, closed_shape, closed_moving, closed_words, closed}
@@ -214,7 +214,7 @@ module _ (L : Rules) (lawful : Lawful L) (x : Machine) (small : both_halves x.he
   found_inside : (p : ℕ) → G.here p ≡ true → G.addr p < both_halves m.page_count P
   found_inside = inside₂ H (closed_laws L lawful) pos F c.st c.scan c.side c.used c.reg a.heap a.reg a.l a.n a.u b start (start + half H) U last_fits apart used_is limit_fits covered
 
-  inv : Inv lay G a.heap (closed_swapped H c) g
+  inv : LooseInv lay G a.heap (closed_swapped H c) g
   inv = inv₂ H (closed_laws L lawful) pos F c.st c.scan c.side c.used c.reg a.heap a.reg a.l a.n a.u b start (start + half H) U last_fits apart used_is limit_fits covered (closed_swapped H c).right h.space.crossing
 
   room : G.start + G.used ≤ g.limit
@@ -226,7 +226,7 @@ module _ (L : Rules) (lawful : Lawful L) (x : Machine) (small : both_halves x.he
   roots_same : ◌≡◌ {A = St × (ℕ → Value)} (closed_moving roots.moving (swapped h).new_start, roots.register) (forward_regs lay P (closed_swapped H c) h.register 32)
   roots_same =
       roots_as L lawful m.page_count P legal G found_ok found_inside (omega (arith, ends_inside m.page_count P (1 - c.side) (omega (arith, b.which)))) a.heap
-      (roots_of (swapped h)) (swapped h).new_start g (subst (λ s. Inv lay G a.heap s g) (sym swapped_as) inv) room (λ j l. (b.regs j l).0) kept_swapped.page_size kept_swapped.page_count 32 (le_refl _)
+      (roots_of (swapped h)) (swapped h).new_start g (subst (λ s. LooseInv lay G a.heap s g) (sym swapped_as) inv) room (λ j l. (b.regs j l).0) kept_swapped.page_size kept_swapped.page_count 32 (le_refl _)
       ∙ ap (λ s. forward_regs lay P s h.register 32) swapped_as
 
   -- FLIP

@@ -11,7 +11,7 @@ use Rattle.model.specs.Heap.{Moving}
 use Rattle.model.specs.Objects.{slot_count}
 use Rattle.model.specs.Forwarding.{is_forwarded, forwarded, new_address, value_forwarded, new_value, Roots, root_forwarded, roots_forwarded}
 use Rattle.theory.specs.Model.{map_v, Layout}
-use Rattle.theory.specs.Collect.{Heap, Flip, FlipOk, St, Pair, Inv, forward, forward_reg, forward_regs}
+use Rattle.theory.specs.Collect.{Heap, Flip, FlipOk, St, Pair, LooseInv, forward, forward_reg, forward_regs}
 use Rattle.theory.specs.Closed.{closed_layout, both_halves, closed_moving}
 use Rattle.theory.proofs.Basics.{or_le, upd_at, upd_other}
 use Rattle.theory.proofs.Copy.{space, start_top}
@@ -32,7 +32,7 @@ module _ (L : Rules) (lawful : Lawful L) (count size : ℕ) (legal : legal_sizes
   abbrev lay : Layout
   lay = closed_layout L
 
-  module _ (s : Moving) (low : ℕ) (g : Pair) (inv : Inv lay F A (closed_moving s low) g) (room : F.start + F.used ≤ g.limit) (es : s.memory.page_size ≡ size) (ec : s.memory.page_count ≡ count) where
+  module _ (s : Moving) (low : ℕ) (g : Pair) (inv : LooseInv lay F A (closed_moving s low) g) (room : F.start + F.used ≤ g.limit) (es : s.memory.page_size ≡ size) (ec : s.memory.page_count ≡ count) where
     sizes_legal : legal_sizes s.memory.page_count s.memory.page_size ≡ true
     sizes_legal = rw (es, ec) legal
 
@@ -60,7 +60,7 @@ module _ (L : Rules) (lawful : Lawful L) (count size : ℕ) (legal : legal_sizes
     pub forward_here : (q : ℕ) → F.here q ≡ true → ◌≡◌ {A = St × ℕ} (closed_moving (forwarded L s (F.addr q)) low, new_address s (F.addr q)) (forward lay size (closed_moving s low) (F.addr q))
     forward_here q h = forward_as L s low (F.addr q) sizes_legal (ready q h) ∙ ap (λ z. forward lay z (closed_moving s low) (F.addr q)) es
 
-  module _ (x₀ : Roots) (low : ℕ) (g : Pair) (inv₀ : Inv lay F A (closed_moving x₀.moving low) g) (room : F.start + F.used ≤ g.limit)
+  module _ (x₀ : Roots) (low : ℕ) (g : Pair) (inv₀ : LooseInv lay F A (closed_moving x₀.moving low) g) (room : F.start + F.used ≤ g.limit)
       (regs : (j : ℕ) → j < F.regs → x₀.register j ≡ map_v F.addr (F.reg j)) (es : x₀.moving.memory.page_size ≡ size) (ec : x₀.moving.memory.page_count ≡ count) where
     abbrev closed_roots : Roots → St × (ℕ → Value)
     closed_roots x = (closed_moving x.moving low, x.register)

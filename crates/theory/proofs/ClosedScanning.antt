@@ -12,7 +12,7 @@ use Rattle.model.specs.Objects.{slot_count, object_words, packed_word}
 use Rattle.model.specs.Forwarding.{forwarded, new_address}
 use Rattle.model.specs.Scanning.{slot_scanned, word_scanned, head_at, run_scanned}
 use Rattle.theory.specs.Model.{map_v, Layout, upd}
-use Rattle.theory.specs.Collect.{Heap, Flip, FlipOk, St, Pair, Alive, Inv, size as size_of, rescan, scan_slot, scan_at, closed_head_at, scan_run}
+use Rattle.theory.specs.Collect.{Heap, Flip, FlipOk, St, Pair, Alive, LooseInv, size as size_of, rescan, scan_slot, scan_at, closed_head_at, scan_run}
 use Rattle.theory.specs.Closed.{closed_layout, both_halves, closed_moving}
 use Rattle.theory.proofs.Scan.{Scanned, read, here_ref}
 use Rattle.theory.proofs.Pages.{Points, found, scan_one, points_on, unscanned_on}
@@ -45,7 +45,7 @@ module _ (L : Rules) (lawful : Lawful L) (count size : ℕ) (legal : legal_sizes
   abbrev lay : Layout
   lay = closed_layout L
 
-  module _ (s : Moving) (g : Pair) (inv : Inv lay F A (closed_moving s low) g) (room : F.start + F.used ≤ g.limit) (es : s.memory.page_size ≡ size) (ec : s.memory.page_count ≡ count) where
+  module _ (s : Moving) (g : Pair) (inv : LooseInv lay F A (closed_moving s low) g) (room : F.start + F.used ≤ g.limit) (es : s.memory.page_size ≡ size) (ec : s.memory.page_count ≡ count) where
     -- a slot that holds what FLIP found there
     slot_as : (x i a : ℕ) (v : Value) → Alive F.here v → a < extent s.memory → closed_moving (slot_scanned L s x i a (map_v F.addr v)) low ≡ rescan lay size (closed_moving s low) x i a (map_v F.addr v)
     slot_as x i a Nil h l = refl
@@ -96,7 +96,7 @@ module _ (L : Rules) (lawful : Lawful L) (count size : ℕ) (legal : legal_sizes
   closed_run r = (closed_moving r.0 low, r.1)
 
   abbrev Runs : ℕ → ℕ → Type 0
-  Runs k e = (s : Moving) (g : Pair) (hd a : ℕ) → Inv lay F A (closed_moving s low) g → F.start + F.used ≤ g.limit → s.memory.page_size ≡ size → s.memory.page_count ≡ count →
+  Runs k e = (s : Moving) (g : Pair) (hd a : ℕ) → LooseInv lay F A (closed_moving s low) g → F.start + F.used ≤ g.limit → s.memory.page_size ≡ size → s.memory.page_count ≡ count →
       F.start ≤ a → (a < s.space.copy_end → Points lay F A g hd a) → ((x : ℕ) → a ≤ x → x < e → x < g.limit → g.done x ≡ false) →
       closed_run (run_scanned L k e s hd a) ≡ scan_run lay size e k (closed_moving s low) hd a
 
@@ -107,7 +107,7 @@ module _ (L : Rules) (lawful : Lawful L) (count size : ℕ) (legal : legal_sizes
   run_on k e ih s g hd a q s₁ sc room es ec l lq o eh f t un =
       ih s₁ sc.pair hd (suc a) sc.inv (rw sc.grows.limit room) es ec (omega arith) (λ z. points_on lay (closed_laws L lawful) size F ok A (closed_moving s low) g hd a q (closed_moving s₁ low) sc lq o eh f t) (unscanned_on lay (closed_laws L lawful) size F ok A (closed_moving s low) g a e (closed_moving s₁ low) sc un)
 
-  run_yes : (k e : ℕ) → Runs k e → (s : Moving) (g : Pair) (hd a : ℕ) (inv : Inv lay F A (closed_moving s low) g) → F.start + F.used ≤ g.limit → s.memory.page_size ≡ size → s.memory.page_count ≡ count →
+  run_yes : (k e : ℕ) → Runs k e → (s : Moving) (g : Pair) (hd a : ℕ) (inv : LooseInv lay F A (closed_moving s low) g) → F.start + F.used ≤ g.limit → s.memory.page_size ≡ size → s.memory.page_count ≡ count →
       F.start ≤ a → Points lay F A g hd a → ((x : ℕ) → a ≤ x → x < e → x < g.limit → g.done x ≡ false) → a < e → a < s.space.copy_end →
       closed_run (run_scanned L k e (word_scanned L s (head_at L s.memory hd a) a) (head_at L s.memory hd a) (suc a)) ≡ scan_run lay size e k (scan_at lay size (closed_moving s low) (closed_head_at lay (closed_moving s low) hd a) a) (closed_head_at lay (closed_moving s low) hd a) (suc a)
   run_yes k e ih s g hd a inv room es ec l pt un ae at =

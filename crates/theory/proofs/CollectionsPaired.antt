@@ -12,8 +12,8 @@ use Rattle.model.specs.Collections.{Tally, tallied, SinceFlip, SinceFlip.flips, 
 use Rattle.model.specs.Runs.{Both, both_after, both_after_all, Accepted}
 use Rattle.theory.specs.Machine.{Shape, Machine as Closed, Never as ClosedNeverMoving}
 use Rattle.theory.specs.Steps.{call as closed_call, n_call}
-use Rattle.theory.specs.Pairing.{Since, Since.flips, Since.goes, Paired as ClosedPaired, Ends}
-use Rattle.theory.specs.Bounds.{Stepping, Stepping.flips, Stepping.goes, steps}
+use Rattle.theory.specs.Pairing.{SinceFrom, SinceFrom.flips, SinceFrom.goes, Paired as ClosedPaired, Ends}
+use Rattle.theory.specs.Bounds.{SteppingFrom, SteppingFrom.flips, SteppingFrom.goes, steps}
 use Rattle.theory.specs.Closed.{closed, closed_never}
 use Rattle.theory.proofs.Collects.{SimOf, Lasts, lasts, collects}
 use Rattle.theory.proofs.StepBound.{step_bound}
@@ -62,15 +62,15 @@ module _ (L : Rules) (lawful : Lawful L) (count size : ℕ) (legal : legal_sizes
 
     pub record Moment (t : Tally) (x : Both) : Type 0 where
       pub tied : Tied x
-      pub since : Since shape turning before t.copied t.scanned (closed x.moving) (closed_never x.never)
-      pub stepping : Stepping shape turning before t.steps (closed x.moving) (closed_never x.never)
+      pub since : SinceFrom shape turning before t.copied t.scanned (closed x.moving) (closed_never x.never)
+      pub stepping : SteppingFrom shape turning before t.steps (closed x.moving) (closed_never x.never)
 
-    since_as : (co co₂ sc sc₂ : ℕ) (m m₂ : Closed) (n n₂ : ClosedNeverMoving) → co ≡ co₂ → sc ≡ sc₂ → m ≡ m₂ → n ≡ n₂ → Since shape turning before co sc m n → Since shape turning before co₂ sc₂ m₂ n₂
+    since_as : (co co₂ sc sc₂ : ℕ) (m m₂ : Closed) (n n₂ : ClosedNeverMoving) → co ≡ co₂ → sc ≡ sc₂ → m ≡ m₂ → n ≡ n₂ → SinceFrom shape turning before co sc m n → SinceFrom shape turning before co₂ sc₂ m₂ n₂
     since_as co co₂ sc sc₂ m m₂ n n₂ ec es em en s =
-        subst (λ z. Since shape turning before co₂ sc₂ m₂ z) en (subst (λ z. Since shape turning before co₂ sc₂ z n) em (subst (λ z. Since shape turning before co₂ z m n) es (subst (λ z. Since shape turning before z sc m n) ec s)))
+        subst (λ z. SinceFrom shape turning before co₂ sc₂ m₂ z) en (subst (λ z. SinceFrom shape turning before co₂ sc₂ z n) em (subst (λ z. SinceFrom shape turning before co₂ z m n) es (subst (λ z. SinceFrom shape turning before z sc m n) ec s)))
 
-    stepping_as : (k k₂ : ℕ) (m m₂ : Closed) (n n₂ : ClosedNeverMoving) → k ≡ k₂ → m ≡ m₂ → n ≡ n₂ → Stepping shape turning before k m n → Stepping shape turning before k₂ m₂ n₂
-    stepping_as k k₂ m m₂ n n₂ ek em en s = subst (λ z. Stepping shape turning before k₂ m₂ z) en (subst (λ z. Stepping shape turning before k₂ z n) em (subst (λ z. Stepping shape turning before z m n) ek s))
+    stepping_as : (k k₂ : ℕ) (m m₂ : Closed) (n n₂ : ClosedNeverMoving) → k ≡ k₂ → m ≡ m₂ → n ≡ n₂ → SteppingFrom shape turning before k m n → SteppingFrom shape turning before k₂ m₂ n₂
+    stepping_as k k₂ m m₂ n n₂ ek em en s = subst (λ z. SteppingFrom shape turning before k₂ m₂ z) en (subst (λ z. SteppingFrom shape turning before k₂ z n) em (subst (λ z. SteppingFrom shape turning before z m n) ek s))
 
     flip_moment : Accepted L y.moving Flip → Moment (tallied (record { copied = 0; scanned = 0; steps = 0 }) (call L y.moving Flip).answer) (both_after L fed y Flip)
     flip_moment e =
@@ -78,8 +78,8 @@ module _ (L : Rules) (lawful : Lawful L) (count size : ℕ) (legal : legal_sizes
         let f = accepted_as L lawful count size legal even y.moving y.never o Flip e in
         record {
           tied = tied_next y o Flip;
-          since = since_as _ _ _ _ _ _ _ _ (omega (arith, met.copied_same)) (omega (arith, met.scanned_same)) (sym met.left) (sym (never_at y o Flip)) (Since.flips f);
-          stepping = stepping_as _ _ _ _ _ _ (omega (arith, stepless L y.moving Flip refl)) (sym met.left) (sym (never_at y o Flip)) (Stepping.flips f);
+          since = since_as _ _ _ _ _ _ _ _ (omega (arith, met.copied_same)) (omega (arith, met.scanned_same)) (sym met.left) (sym (never_at y o Flip)) (SinceFrom.flips f);
+          stepping = stepping_as _ _ _ _ _ _ (omega (arith, stepless L y.moving Flip refl)) (sym met.left) (sym (never_at y o Flip)) (SteppingFrom.flips f);
         }
 
     next_moment : (t : Tally) (x : Both) → Moment t x → x.moving.heap.phase ≡ Collecting → (c : Call) → Moment (tallied t (call L x.moving c).answer) (both_after L fed x c)
@@ -87,8 +87,8 @@ module _ (L : Rules) (lawful : Lawful L) (count size : ℕ) (legal : legal_sizes
         let met = met_at x s.tied c in
         record {
           tied = tied_next x s.tied c;
-          since = since_as _ _ _ _ _ _ _ _ (ap (λ n. t.copied + n) (sym met.copied_same)) (ap (λ n. t.scanned + n) (sym met.scanned_same)) (sym met.left) (sym (never_at x s.tied c)) (Since.goes s.since busy c);
-          stepping = stepping_as _ _ _ _ _ _ (ap (λ n. t.steps + n) (sym (steps_as L x.moving busy c))) (sym met.left) (sym (never_at x s.tied c)) (Stepping.goes s.stepping busy c);
+          since = since_as _ _ _ _ _ _ _ _ (ap (λ n. t.copied + n) (sym met.copied_same)) (ap (λ n. t.scanned + n) (sym met.scanned_same)) (sym met.left) (sym (never_at x s.tied c)) (SinceFrom.goes s.since busy c);
+          stepping = stepping_as _ _ _ _ _ _ (ap (λ n. t.steps + n) (sym (steps_as L x.moving busy c))) (sym met.left) (sym (never_at x s.tied c)) (SteppingFrom.goes s.stepping busy c);
         }
 
     pub moment : {t : Tally} {x : Both} → SinceFlip L fed y t x → Moment t x

@@ -4,7 +4,7 @@ use Rattle.std.proofs.lemmas.Bool.{cases_eq, cases_lt, cases_Bool, both_ways, eq
 use Rattle.theory.specs.Model.{map_v, Layout, upd, sum_to, weight}
 use Rattle.layouts.specs.declared.values.Value.{Value}
 use Rattle.layouts.specs.declared.values.Value.TheVariants.{Nil, Number, Reference}
-use Rattle.theory.specs.Collect.{Laws, Heap, Flip, FlipOk, Reached, St, Pair, Alive, Inv, size}
+use Rattle.theory.specs.Collect.{Laws, Heap, Flip, FlipOk, Reached, St, Pair, Alive, LooseInv, size}
 use Rattle.theory.specs.Reach.{reaches}
 use Rattle.theory.specs.Machine.{Shape, half, Machine, Never, view_m, refusal, closed_is_idle, Found, Found.none, Found.found}
 use Rattle.model.specs.declared.states.Phase.{Phase}
@@ -13,7 +13,7 @@ use Rattle.model.specs.declared.calls.Call.{Call}
 use Rattle.model.specs.declared.calls.Call.TheVariants.{Flip as Turn, Step}
 use Rattle.model.specs.Outcomes.{Told, Told.ended, Told.nothing}
 use Rattle.theory.specs.Steps.{call, n_call, scanned_all, step, stepped, act, lowest_behind, scan_page, Outcome}
-use Rattle.theory.specs.Pairing.{Since, Since.flips, Since.goes, Paired, Ends, Collects}
+use Rattle.theory.specs.Pairing.{SinceFrom, SinceFrom.flips, SinceFrom.goes, Paired, Ends, CollectsFrom}
 use Rattle.theory.proofs.Calls.{load_agrees}
 use Rattle.theory.proofs.Reach.{reaches_all, reaches_only}
 use Rattle.theory.proofs.World.{Body, World, Busy, Rest, Phased}
@@ -56,7 +56,7 @@ module _ (H : Shape) (laws : Laws H.lay) (pos : 0 < H.page) where
         scanned = omega (arith, k.1.1, l.scanned);
       }
 
-  pub lasts : {m₀ : Machine} {a₀ : Never} → SimOf H m₀ a₀ → {co sc : ℕ} {m : Machine} {a : Never} → Since H m₀ a₀ co sc m a → Lasts H a₀ co sc m a
+  pub lasts : {m₀ : Machine} {a₀ : Never} → SimOf H m₀ a₀ → {co sc : ℕ} {m : Machine} {a : Never} → SinceFrom H m₀ a₀ co sc m a → Lasts H a₀ co sc m a
   lasts {m₀ = m₀} {a₀ = a₀} o (flips e) = first a₀ m₀ o e
   lasts {a₀ = a₀} o (goes {co = co} {sc = sc} {m = m} {a = a} s pc c) = onward a₀ co sc m a (lasts o s) pc c
 
@@ -123,7 +123,7 @@ module _ (H : Shape) (laws : Laws H.lay) (pos : 0 < H.page) where
       let s₃ : n.flip.start ≡ l.flip.start = s₁ ∙ ap (λ z. z * half H) lf.2 ∙ sym s₂ in
       ends a₀ (call H m Step).next (n_call H a Step (call H m Step).told).next n.flip n.world n.old n.regs n.reg (co + (call H m Step).copied) (sc + (call H m Step).scanned) lf.1 n.copied (omega (arith, n.scanned, lf.0))
 
-  pub collects : (m₀ : Machine) (a₀ : Never) → SimOf H m₀ a₀ → Collects H m₀ a₀
+  pub collects : (m₀ : Machine) (a₀ : Never) → SimOf H m₀ a₀ → CollectsFrom H m₀ a₀
   collects m₀ a₀ o co sc m a s pc =
       let l = lasts o s in (
         paired_busy a₀ m a l.flip l.world l.old l.regs l.reg pc,

@@ -6,7 +6,7 @@ use Rattle.theory.specs.Model.{map_v, Layout, upd, blit, sum_to, weight}
 use Rattle.layouts.specs.declared.values.Value.{Value}
 use Rattle.layouts.specs.declared.values.Value.TheVariants.{Nil, Number, Reference}
 use Rattle.layouts.specs.Layouts.{addressable}
-use Rattle.theory.specs.Collect.{Laws, Heap, Flip, size, Reached, Reached.root, Reached.step, Clear, FlipOk, St, Pair, Alive, Inv, Grows, Copies, Side}
+use Rattle.theory.specs.Collect.{Laws, Heap, Flip, size, Reached, Reached.root, Reached.step, Clear, FlipOk, St, Pair, Alive, LooseInv, Grows, Copies, LooseSide}
 use Rattle.theory.proofs.Basics.{upd_same, upd_other, upd_at, weight_add, sum_mono, weight_mono, or_le}
 
 -- the pairing with p at b
@@ -29,7 +29,7 @@ near_map_v live f Nil a e = refl
 near_map_v live f (Number n) a e = refl
 near_map_v live f (Reference q) a e = lt-ltb (f q) 16384 (e q a)
 
-module _ (L : Layout) (F : Flip) (ok : FlipOk L F) (A : Heap) (s : St) (g : Pair) (inv : Inv L F A s g) where
+module _ (L : Layout) (F : Flip) (ok : FlipOk L F) (A : Heap) (s : St) (g : Pair) (inv : LooseInv L F A s g) where
   -- a place that is here and not yet copied has room below the limit
   pub space : (p : ℕ) → F.start + F.used ≤ g.limit → F.here p ≡ true → g.live p ≡ false → s.top + size L F.old p ≤ g.limit
   space p room h f =
@@ -241,7 +241,7 @@ module _ (L : Layout) (F : Flip) (ok : FlipOk L F) (A : Heap) (s : St) (g : Pair
     new' : (q i : ℕ) → live' q ≡ true → F.old.many ≤ q → i < L.slots (A.hdr q) → g.done (to' q + suc i) ≡ true
     new' q i t l k = let ne : q ≢ p = omega (arith, lt) in rw (to_o q ne) (inv.new q i (was q t ne) l k)
 
-    pub copy_keeps : Inv L F A s' (paired g p s.top)
+    pub copy_keeps : LooseInv L F A s' (paired g p s.top)
     copy_keeps = record {
       many = inv.many;
       heads = inv.heads;
@@ -273,7 +273,7 @@ module _ (L : Layout) (F : Flip) (ok : FlipOk L F) (A : Heap) (s : St) (g : Pair
     pub copy_grows : Grows g (paired g p s.top)
     copy_grows = record { live = stays_live; to = stays_to; limit = refl }
 
-    pub copy_side : Side L P F A s g → Side L P F A s' (paired g p s.top)
+    pub copy_side : LooseSide L P F A s g → LooseSide L P F A s' (paired g p s.top)
     copy_side o = record {
       opens = λ x l b r. elim (cases_lt x s.top) [
         | inl k ↦ o.opens x l k (λ z. r (c.shuts (x / P) r ∙ z))

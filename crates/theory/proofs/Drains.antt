@@ -4,7 +4,7 @@ use Rattle.std.proofs.lemmas.Bool.{cases_eq, cases_lt, cases_Bool, both_ways, eq
 use Rattle.theory.specs.Model.{map_v, Layout, upd}
 use Rattle.layouts.specs.declared.values.Value.{Value}
 use Rattle.layouts.specs.declared.values.Value.TheVariants.{Nil, Number, Reference}
-use Rattle.theory.specs.Collect.{Laws, Heap, Flip, St, Pair, Inv, size}
+use Rattle.theory.specs.Collect.{Laws, Heap, Flip, St, Pair, LooseInv, size}
 use Rattle.theory.specs.Machine.{Shape, half, whole, Machine, Never, trapped, fine, refused, view_m, refusal, bad, at, is_busy, closed_is_idle, closed_is_imaging, closed_is_running, lowest, Found, Found.none, Found.found}
 use Rattle.model.specs.declared.states.State.{State}
 use Rattle.model.specs.declared.states.State.TheVariants.{Running, Waiting, InHand}

@@ -4,7 +4,7 @@ use Rattle.std.proofs.lemmas.Bool.{cases_eq, cases_lt, cases_Bool, both_ways, fa
 use Rattle.theory.specs.Model.{map_v, Layout, upd, blit, sum_to, weight}
 use Rattle.layouts.specs.declared.values.Value.{Value}
 use Rattle.layouts.specs.declared.values.Value.TheVariants.{Nil, Number, Reference}
-use Rattle.theory.specs.Collect.{Laws, Heap, Flip, size, Reached, Clear, FlipOk, Side, St, Pair, Alive, Inv, Grows}
+use Rattle.theory.specs.Collect.{Laws, Heap, Flip, size, Reached, Clear, FlipOk, LooseSide, St, Pair, Alive, LooseInv, Grows}
 use Rattle.theory.proofs.Basics.{upd_same, upd_other, upd_at, sum_same, or_le}
 use Rattle.theory.proofs.Copy.{in_to, start_top}
 
@@ -16,7 +16,7 @@ sum_none size (suc n) = omega (arith, sum_none size n)
 abbrev pub AllDone : Layout → Heap → Pair → Type 0
 AllDone L A g = (p i : ℕ) → g.live p ≡ true → i < L.slots (A.hdr p) → g.done (g.to p + suc i) ≡ true
 
-module _ (L : Layout) (F : Flip) (ok : FlipOk L F) (A : Heap) (s : St) (g : Pair) (inv : Inv L F A s g) (all : AllDone L A g)
+module _ (L : Layout) (F : Flip) (ok : FlipOk L F) (A : Heap) (s : St) (g : Pair) (inv : LooseInv L F A s g) (all : AllDone L A g)
     (n : ℕ) (reg : ℕ → Value) (regs : (k : ℕ) → k < n → Alive g.live (reg k))
     (start last limit : ℕ) (halves : (F.last ≤ start) ⊎ (last ≤ F.start)) (small : last ≤ 16384) where
   abbrev pub flipped : Flip
@@ -48,7 +48,7 @@ module _ (L : Layout) (F : Flip) (ok : FlipOk L F) (A : Heap) (s : St) (g : Pair
     small = small;
   }
 
-  pub flip_keeps : (right cross : ℕ → ℕ) → start + flipped.used ≤ limit → limit ≤ last → Inv L flipped A (turned right cross) empty
+  pub flip_keeps : (right cross : ℕ → ℕ) → start + flipped.used ≤ limit → limit ≤ last → LooseInv L flipped A (turned right cross) empty
   flip_keeps right cross room e = record {
     many = le_refl _;
     heads = λ p l. refl;
@@ -77,5 +77,5 @@ module _ (L : Layout) (F : Flip) (ok : FlipOk L F) (A : Heap) (s : St) (g : Pair
     new = λ p i t m k. absurd (false≢true t);
   }
 
-  pub flip_side : (P : ℕ) (right cross : ℕ → ℕ) → Side L P flipped A (turned right cross) empty
+  pub flip_side : (P : ℕ) (right cross : ℕ → ℕ) → LooseSide L P flipped A (turned right cross) empty
   flip_side P right cross = record { opens = λ x l b r. absurd (omega arith); cross = λ ro m l b. absurd (omega arith) }

@@ -5,7 +5,7 @@ use Rattle.std.proofs.lemmas.Bool.{eq-eqb, ne_eqb, cases_eq, cases_lt, cases_Boo
 use Rattle.theory.specs.Model.{map_v, Layout, upd, blit, sum_to, weight}
 use Rattle.layouts.specs.declared.values.Value.{Value}
 use Rattle.layouts.specs.declared.values.Value.TheVariants.{Nil, Number, Reference}
-use Rattle.theory.specs.Collect.{Laws, Heap, Flip, size, Reached, Clear, FlipOk, St, Pair, Alive, Inv, Grows, Copies, copied, forward, shut, Side}
+use Rattle.theory.specs.Collect.{Laws, Heap, Flip, size, Reached, Clear, FlipOk, St, Pair, Alive, LooseInv, Grows, Copies, copied, forward, shut, LooseSide}
 use Rattle.theory.proofs.Basics.{upd_same, upd_other, upd_at, blit_in, blit_out, or_le, div_mono}
 use Rattle.theory.proofs.Copy.{paired, space, start_top, copy_keeps, copy_grows, copy_side}
 
@@ -41,12 +41,12 @@ copied_is L P s a n e cl = rw (sym e) (at (L.slots (s.mem a)) (rw (sym e) at cl)
 -- what holds after a forwarding of p
 pub record Forwarded (L : Layout) (P : ℕ) (F : Flip) (A : Heap) (s : St) (g : Pair) (p : ℕ) (r : St × ℕ) : Type 0 where
   pub pair : Pair
-  pub inv : Inv L F A r.0 pair
+  pub inv : LooseInv L F A r.0 pair
   pub grows : Grows g pair
   pub live : pair.live p ≡ true
   pub at : r.1 ≡ pair.to p
   pub done : pair.done ≡ g.done
-  pub side : Side L P F A s g → Side L P F A r.0 pair
+  pub side : LooseSide L P F A s g → LooseSide L P F A r.0 pair
   pub rises : s.top ≤ r.0.top
 
 pub grows_refl : (g : Pair) → Grows g g
@@ -55,7 +55,7 @@ grows_refl g = record { live = λ p l. l; to = λ p l. refl; limit = refl }
 pub grows_trans : (g h k : Pair) → Grows g h → Grows h k → Grows g k
 grows_trans g h k a b = record { live = λ p l. b.live p (a.live p l); to = λ p l. b.to p (a.live p l) ∙ a.to p l; limit = b.limit ∙ a.limit }
 
-module _ (L : Layout) (laws : Laws L) (P : ℕ) (F : Flip) (ok : FlipOk L F) (A : Heap) (s : St) (g : Pair) (inv : Inv L F A s g) (room : F.start + F.used ≤ g.limit) where
+module _ (L : Layout) (laws : Laws L) (P : ℕ) (F : Flip) (ok : FlipOk L F) (A : Heap) (s : St) (g : Pair) (inv : LooseInv L F A s g) (room : F.start + F.used ≤ g.limit) where
   forward_even : (a : ℕ) → s.mem a % 2 ≡ 0 → forward L P s a ≡ (s, s.mem a / 2)
   forward_even a e = rw (eq-eqb (s.mem a % 2) 0 e)
 

@@ -4,7 +4,7 @@ use Rattle.std.proofs.lemmas.Bool.{false≢true}
 use Rattle.theory.specs.Model.{Layout, sum_to, weight}
 use Rattle.layouts.specs.declared.values.Value.{Value}
 use Rattle.layouts.specs.declared.values.Value.TheVariants.{Nil, Number, Reference}
-use Rattle.theory.specs.Collect.{Laws, Heap, Flip, Reached, FlipOk, St, Pair, Inv, Side}
+use Rattle.theory.specs.Collect.{Laws, Heap, Flip, Reached, FlipOk, St, Pair, LooseInv, LooseSide}
 use Rattle.theory.specs.Machine.{Shape, half, Machine, Never}
 use Rattle.model.specs.declared.calls.Call.{Call}
 use Rattle.theory.specs.Steps.{fresh_m, fresh_a}
@@ -32,7 +32,7 @@ module _ (H : Shape) where
     small = omega (arith, H.small);
   }
 
-  inv : Inv H.lay F fresh_a.heap (fresh_m H (λ j. 0)).st g
+  inv : LooseInv H.lay F fresh_a.heap (fresh_m H (λ j. 0)).st g
   inv = record {
     many = le_refl _;
     heads = λ p l. refl;

@@ -67,3 +67,4 @@ pub mod Promises
 pub mod ImageExample
 pub mod RestoreChecks
 pub mod SpoiltImages
+pub mod FromMake

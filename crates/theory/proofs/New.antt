@@ -5,7 +5,7 @@ use Rattle.std.proofs.lemmas.Bool.Decides.{nat_tests}
 use Rattle.theory.specs.Model.{map_v, Layout, upd, blit, sum_to, weight}
 use Rattle.layouts.specs.declared.values.Value.{Value}
 use Rattle.layouts.specs.declared.values.Value.TheVariants.{Nil, Number, Reference}
-use Rattle.theory.specs.Collect.{Laws, Heap, Flip, size, Reached, Clear, FlipOk, St, Pair, Alive, Inv, Grows, Adds, Places}
+use Rattle.theory.specs.Collect.{Laws, Heap, Flip, size, Reached, Clear, FlipOk, St, Pair, Alive, LooseInv, Grows, Adds, Places}
 use Rattle.theory.proofs.Basics.{upd_same, upd_other, upd_at, sum_same, weight_add, or_le}
 use Rattle.theory.proofs.Copy.{in_to, start_top, map_v_same, alive_more}
 
@@ -35,7 +35,7 @@ plain_map_v f Nil p = refl
 plain_map_v f (Number n) p = refl
 plain_map_v f (Reference a) p = absurd p
 
-module _ (L : Layout) (F : Flip) (ok : FlipOk L F) (A : Heap) (s : St) (g : Pair) (inv : Inv L F A s g)
+module _ (L : Layout) (F : Flip) (ok : FlipOk L F) (A : Heap) (s : St) (g : Pair) (inv : LooseInv L F A s g)
     (h : ℕ) (init : ℕ → Value) (plain : (i : ℕ) → i < L.slots h → Plain (init i)) (hh : L.head h ≡ true) (hf : (i : ℕ) → i < L.slots h → L.admits h i (init i) ≡ true)
     (A' : Heap) (ad : Adds A A' h init) (s' : St) (pl : Places L s s' h init) (space : g.limit ≤ s'.low) where
   abbrev n : ℕ
@@ -207,7 +207,7 @@ module _ (L : Layout) (F : Flip) (ok : FlipOk L F) (A : Heap) (s : St) (g : Pair
   not_n : (q : ℕ) → F.here q ≡ true → q ≢ n
   not_n q hq = omega (arith, ok.below q hq, inv.many)
 
-  pub new_keeps : Inv L F A' s' placed
+  pub new_keeps : LooseInv L F A' s' placed
   new_keeps = record {
     many = omega (arith, ad.many, inv.many);
     heads = λ q m. let ne : q ≢ n = omega (arith, inv.many) in ad.old_hdr q ne ∙ inv.heads q m;

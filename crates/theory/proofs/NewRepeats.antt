@@ -4,7 +4,7 @@ use Rattle.std.proofs.lemmas.Bool.{cases_eq, cases_lt, cases_Bool, both_ways, eq
 use Rattle.theory.specs.Model.{map_v, Layout, upd}
 use Rattle.layouts.specs.declared.values.Value.{Value}
 use Rattle.layouts.specs.declared.values.Value.TheVariants.{Nil, Number, Reference}
-use Rattle.theory.specs.Collect.{Laws, Heap, Flip, St, Pair, Inv, size}
+use Rattle.theory.specs.Collect.{Laws, Heap, Flip, St, Pair, LooseInv, size}
 use Rattle.theory.specs.Machine.{Shape, half, whole, Machine, Never, trapped, fine, refused, view_m, refusal, bad, at, is_busy, closed_is_idle, closed_is_imaging, closed_is_running, lowest, Found, Found.none, Found.found}
 use Rattle.model.specs.declared.states.State.{State}
 use Rattle.model.specs.declared.states.State.TheVariants.{Running, Waiting, InHand}
@@ -14,7 +14,7 @@ use Rattle.model.specs.declared.calls.Call.{Call}
 use Rattle.model.specs.declared.calls.Call.TheVariants.{New, Load, Store, Copy, SetNumber, SetNil, Same, Tell, Count, Flip as Turn, Step, Take, Resolve, Mark, Save}
 use Rattle.model.specs.declared.calls.Answer.{Answer}
 use Rattle.theory.specs.Steps.{call, act, denied, traps, did, save, saved, resolved, resolved_save, closed_new_at, behind, scan_page, save_page, lowest_pend, Outcome}
-use Rattle.theory.specs.Runs.{after, Quiet, resolves, marks, NewRepeats}
+use Rattle.theory.specs.Runs.{after, Quiet, resolves, marks, NewRepeatsFrom}
 use Rattle.theory.proofs.Basics.{upd_same, upd_other, upd_at, page_lo, page_hi, page_of, div_mono, lowest_passes, lowest_least}
 use Rattle.theory.proofs.Cases.{load_ways, store_ways}
 use Rattle.theory.proofs.Copy.{start_top}
@@ -123,7 +123,7 @@ module _ (H : Shape) (laws : Laws H.lay) (pos : 0 < H.page) where
       let c = resolve_clears H laws pos m₁ d₂.calm k p n re in
       (o.1, drains_trans m m₁ (call H m₁ (Resolve k p n)).next d₂ c.0, c.1)
 
-  pub new_repeats : (start : Machine) → Good H start → NewRepeats H start
+  pub new_repeats : (start : Machine) → Good H start → NewRepeatsFrom H start
   new_repeats start good xs ys zs k d r w p p₂ n n₂ m₀ e₀ t₀ m₁ e₁ q₁ re₁ m₂ e₂ t₂ m₃ e₃ q₃ re₃ q t₄ =
       let g₀ = rw (sym e₀) at (good_after H laws pos start good xs) in
       let g₁ = rw (sym e₁) at (good_after H laws pos (call H m₀ (New k d r w)).next (good_call H laws pos m₀ g₀ (New k d r w)) ys) in

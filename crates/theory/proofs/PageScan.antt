@@ -4,7 +4,7 @@ use Rattle.std.proofs.lemmas.Bool.{cases_eq, cases_lt, cases_Bool, both_ways, eq
 use Rattle.theory.specs.Model.{map_v, Layout, upd, blit, sum_to, weight}
 use Rattle.layouts.specs.declared.values.Value.{Value}
 use Rattle.layouts.specs.declared.values.Value.TheVariants.{Nil, Number, Reference}
-use Rattle.theory.specs.Collect.{Laws, Heap, Flip, size, Reached, Clear, FlipOk, St, Pair, Alive, Inv, Side, Grows, scan_run}
+use Rattle.theory.specs.Collect.{Laws, Heap, Flip, size, Reached, Clear, FlipOk, St, Pair, Alive, LooseInv, LooseSide, Grows, scan_run}
 use Rattle.theory.specs.Machine.{begins, ran_page, grant}
 use Rattle.theory.proofs.Basics.{upd_same, upd_other, upd_at, or_le, page_lo, page_hi, page_of}
 use Rattle.theory.proofs.Forward.{grows_refl, grows_trans}
@@ -12,7 +12,7 @@ use Rattle.theory.proofs.Pages.{Points, Ran, run_keeps}
 use Rattle.theory.proofs.World.{Whole, Scans}
 
 -- an address that no object reaches over stays so while objects are copied
-pub whole_grows : (L : Layout) (F : Flip) (A : Heap) (s s' : St) (g g' : Pair) → Inv L F A s g → Inv L F A s' g' → Grows g g' → s.top ≤ s'.top → (x : ℕ) → Whole L F A s g x → Whole L F A s' g' x
+pub whole_grows : (L : Layout) (F : Flip) (A : Heap) (s s' : St) (g g' : Pair) → LooseInv L F A s g → LooseInv L F A s' g' → Grows g g' → s.top ≤ s'.top → (x : ℕ) → Whole L F A s g x → Whole L F A s' g' x
 whole_grows L F A s s' g g' inv inv' gr up x w = record {
   in_top = omega (arith, w.in_top);
   clear = λ q l m. elim (cases_Bool (g.live q)) [
@@ -32,16 +32,16 @@ whole_grows L F A s s' g g' inv inv' gr up x w = record {
 -- what page n is after its scan
 pub record Paged (L : Layout) (P : ℕ) (F : Flip) (A : Heap) (s : St) (g : Pair) (scan : ℕ → ℕ) (n : ℕ) (r : St × ℕ) : Type 0 where
   pub pair : Pair
-  pub inv : Inv L F A (grant r.0 n 2) pair
+  pub inv : LooseInv L F A (grant r.0 n 2) pair
   pub grows : Grows g pair
-  pub side : Side L P F A (grant r.0 n 2) pair
+  pub side : LooseSide L P F A (grant r.0 n 2) pair
   pub scans : Scans L P F A (grant r.0 n 2) pair (upd scan n r.1)
   pub rises : s.top ≤ r.0.top
   pub all : min (n * P + P) r.0.top ≤ r.1
   pub on : scan n ≤ r.1
 
 -- rights do not enter the invariant
-pub grant_inv : (L : Layout) (F : Flip) (A : Heap) (s : St) (g : Pair) (n r : ℕ) → Inv L F A s g → Inv L F A (grant s n r) g
+pub grant_inv : (L : Layout) (F : Flip) (A : Heap) (s : St) (g : Pair) (n r : ℕ) → LooseInv L F A s g → LooseInv L F A (grant s n r) g
 grant_inv L F A s g n r inv = record {
   many = inv.many;
   heads = inv.heads;
@@ -70,7 +70,7 @@ grant_inv L F A s g n r inv = record {
   new = inv.new;
 }
 
-module _ (L : Layout) (laws : Laws L) (P : ℕ) (pos : 0 < P) (F : Flip) (ok : FlipOk L F) (A : Heap) (s : St) (g : Pair) (inv : Inv L F A s g) (side : Side L P F A s g)
+module _ (L : Layout) (laws : Laws L) (P : ℕ) (pos : 0 < P) (F : Flip) (ok : FlipOk L F) (A : Heap) (s : St) (g : Pair) (inv : LooseInv L F A s g) (side : LooseSide L P F A s g)
     (scan : ℕ → ℕ) (sc : Scans L P F A s g scan) (room : F.start + F.used ≤ g.limit) (n : ℕ) (st : F.start ≤ n * P) where
   -- the header where scanning begins
   pub points : scan n < s.top → scan n < n * P + P → Points L F A g (begins P s scan n) (scan n)
@@ -179,7 +179,7 @@ module _ (L : Layout) (laws : Laws L) (P : ℕ) (pos : 0 < P) (F : Flip) (ok : F
         let li : x < g.limit = omega (arith, o.inv.limits, o.grows.limit) in
         done' x l li ∙ ap (ltb x) (upd_at scan n (x / P) r.1 e) ∙ lt-ltb x r.1 (omega (arith, en))
 
-    side' : Side L P F A (grant r.0 n 2) o.pair
+    side' : LooseSide L P F A (grant r.0 n 2) o.pair
     side' = let d = o.side side in record {
       opens = λ x l m h. elim (cases_eq (x / P) n) [
         | inl e ↦ page_done x l m e

@@ -4,7 +4,7 @@ use Rattle.std.proofs.lemmas.Bool.{cases_eq, cases_lt, cases_Bool, both_ways, eq
 use Rattle.theory.specs.Model.{map_v, Layout, upd, blit, sum_to, weight}
 use Rattle.layouts.specs.declared.values.Value.{Value}
 use Rattle.layouts.specs.declared.values.Value.TheVariants.{Nil, Number, Reference}
-use Rattle.theory.specs.Collect.{Laws, Heap, Flip, size, Reached, Clear, FlipOk, St, Pair, Alive, Inv, Side, Grows, scan_slot, scan_at, closed_head_at, scan_run}
+use Rattle.theory.specs.Collect.{Laws, Heap, Flip, size, Reached, Clear, FlipOk, St, Pair, Alive, LooseInv, LooseSide, Grows, scan_slot, scan_at, closed_head_at, scan_run}
 use Rattle.theory.proofs.Basics.{upd_same, upd_other, upd_at, or_le}
 use Rattle.theory.proofs.Forward.{grows_refl, grows_trans}
 use Rattle.theory.proofs.Scan.{Scanned, scan_keeps, scan_head}
@@ -21,9 +21,9 @@ pub record Points (L : Layout) (F : Flip) (A : Heap) (g : Pair) (hd a : ℕ) : T
 -- what holds after the words from a up to r.1 are scanned
 pub record Ran (L : Layout) (P : ℕ) (F : Flip) (A : Heap) (s : St) (g : Pair) (e a : ℕ) (r : St × ℕ) : Type 0 where
   pub pair : Pair
-  pub inv : Inv L F A r.0 pair
+  pub inv : LooseInv L F A r.0 pair
   pub grows : Grows g pair
-  pub side : Side L P F A s g → Side L P F A r.0 pair
+  pub side : LooseSide L P F A s g → LooseSide L P F A r.0 pair
   pub rises : s.top ≤ r.0.top
   pub on : a ≤ r.1
   pub in_top : (r.1 ≡ a) ⊎ (r.1 ≤ r.0.top)
@@ -32,7 +32,7 @@ pub record Ran (L : Layout) (P : ℕ) (F : Flip) (A : Heap) (s : St) (g : Pair) 
   pub within : r.1 ≤ max a e
 
 module _ (L : Layout) (laws : Laws L) (P : ℕ) (F : Flip) (ok : FlipOk L F) (A : Heap) where
-  module _ (s : St) (g : Pair) (inv : Inv L F A s g) where
+  module _ (s : St) (g : Pair) (inv : LooseInv L F A s g) where
     -- the header of the word at a, found from that of the word before
     pub found : (hd a : ℕ) → F.start ≤ a → a < s.top → Points L F A g hd a → (q : ℕ) × (g.live q ≡ true) × (q < F.old.many) × (closed_head_at L s hd a ≡ g.to q) × (g.to q ≤ a) × (a < g.to q + size L A q)
     found hd a l b p =
@@ -81,12 +81,12 @@ module _ (L : Layout) (laws : Laws L) (P : ℕ) (F : Flip) (ok : FlipOk L F) (A 
     rest = λ x h. o.rest x (or_le _ _ _ _ (omega arith)) ∙ ap (λ d. d x) sc.done ∙ upd_other g.done a x true (omega (arith, o.on));
   }
 
-  run_none : (s : St) (g : Pair) (e a : ℕ) → Inv L F A s g → Ran L P F A s g e a (s, a)
+  run_none : (s : St) (g : Pair) (e a : ℕ) → LooseInv L F A s g → Ran L P F A s g e a (s, a)
   run_none s g e a inv = record { pair = g; inv = inv; grows = grows_refl g; side = λ x. x; rises = le_refl _; on = le_refl _; in_top = inl refl; done = λ x l m. absurd (omega arith); rest = λ x h. refl; within = omega arith }
 
   -- that a run of at most k words up to e keeps all
   abbrev Keeps : ℕ → ℕ → Type 0
-  Keeps k e = (s : St) (g : Pair) (hd a : ℕ) → Inv L F A s g → F.start + F.used ≤ g.limit → F.start ≤ a → (a < s.top → Points L F A g hd a) → ((x : ℕ) → a ≤ x → x < e → x < g.limit → g.done x ≡ false) → Ran L P F A s g e a (scan_run L P e k s hd a) × (e ≤ a + k → min e (scan_run L P e k s hd a).0.top ≤ (scan_run L P e k s hd a).1)
+  Keeps k e = (s : St) (g : Pair) (hd a : ℕ) → LooseInv L F A s g → F.start + F.used ≤ g.limit → F.start ≤ a → (a < s.top → Points L F A g hd a) → ((x : ℕ) → a ≤ x → x < e → x < g.limit → g.done x ≡ false) → Ran L P F A s g e a (scan_run L P e k s hd a) × (e ≤ a + k → min e (scan_run L P e k s hd a).0.top ≤ (scan_run L P e k s hd a).1)
 
   pub points_on : (s : St) (g : Pair) (hd a q : ℕ) (s₁ : St) (sc : Scanned L P F A s g a s₁) → g.live q ≡ true → q < F.old.many → hd ≡ g.to q → g.to q ≤ a → a < g.to q + size L A q → Points L F A sc.pair hd (suc a)
   points_on s g hd a q s₁ sc l m e f t =
@@ -101,7 +101,7 @@ module _ (L : Layout) (laws : Laws L) (P : ℕ) (F : Flip) (ok : FlipOk L F) (A 
       let o = ih s₁ sc.pair hd (suc a) sc.inv (rw sc.grows.limit room) (omega arith) (λ z. points_on s g hd a q s₁ sc lq m eq f t) (unscanned_on s g a e s₁ sc un) in
       (run_step s g e a s₁ (scan_run L P e k s₁ hd (suc a)) b be sc o.0, o.1)
 
-  run_yes : (k e : ℕ) → Keeps k e → (s : St) (g : Pair) (hd a : ℕ) → (inv : Inv L F A s g) → F.start + F.used ≤ g.limit → F.start ≤ a → (a < s.top → Points L F A g hd a) → ((x : ℕ) → a ≤ x → x < e → x < g.limit → g.done x ≡ false) → a < e → a < s.top →
+  run_yes : (k e : ℕ) → Keeps k e → (s : St) (g : Pair) (hd a : ℕ) → (inv : LooseInv L F A s g) → F.start + F.used ≤ g.limit → F.start ≤ a → (a < s.top → Points L F A g hd a) → ((x : ℕ) → a ≤ x → x < e → x < g.limit → g.done x ≡ false) → a < e → a < s.top →
       Ran L P F A s g e a (scan_run L P e k (scan_at L P s (closed_head_at L s hd a) a) (closed_head_at L s hd a) (suc a)) × (e ≤ suc a + k → min e (scan_run L P e k (scan_at L P s (closed_head_at L s hd a) a) (closed_head_at L s hd a) (suc a)).0.top ≤ (scan_run L P e k (scan_at L P s (closed_head_at L s hd a) a) (closed_head_at L s hd a) (suc a)).1)
   run_yes k e ih s g hd a inv room l pt un ae at =
       let f = found s g inv hd a l at (pt at) in

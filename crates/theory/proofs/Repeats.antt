@@ -4,7 +4,7 @@ use Rattle.std.proofs.lemmas.Bool.{cases_eq, cases_lt, cases_Bool, both_ways, eq
 use Rattle.theory.specs.Model.{map_v, Layout, upd}
 use Rattle.layouts.specs.declared.values.Value.{Value}
 use Rattle.layouts.specs.declared.values.Value.TheVariants.{Nil, Number, Reference}
-use Rattle.theory.specs.Collect.{Laws, Heap, Flip, St, Pair, Inv, size}
+use Rattle.theory.specs.Collect.{Laws, Heap, Flip, St, Pair, LooseInv, size}
 use Rattle.theory.specs.Machine.{Shape, half, whole, Machine, Never, trapped, fine, refused, view_m, refusal, bad, at, head_of, refs, is_busy, closed_is_idle, closed_is_imaging, closed_is_running, Found, Found.none, Found.found, ran_page}
 use Rattle.model.specs.declared.states.State.{State}
 use Rattle.model.specs.declared.states.State.TheVariants.{Running, Waiting, InHand}
@@ -14,7 +14,7 @@ use Rattle.model.specs.declared.calls.Call.{Call}
 use Rattle.model.specs.declared.calls.Call.TheVariants.{Load, Store, New, Resolve}
 use Rattle.model.specs.declared.calls.Answer.{Answer}
 use Rattle.theory.specs.Steps.{call, act, denied, traps, did, slot_at, loaded, stored, resolved, resolved_save, closed_new_at, behind, scan_page, save_page, Outcome, addr_of}
-use Rattle.theory.specs.Runs.{after, Quiet, resolves, marks, Accesses, Accesses.loads, Accesses.stores, AccessRepeats}
+use Rattle.theory.specs.Runs.{after, Quiet, resolves, marks, Accesses, Accesses.loads, Accesses.stores, AccessRepeatsFrom}
 use Rattle.theory.proofs.Basics.{upd_same, upd_other, upd_at, page_lo, page_hi, aligned}
 use Rattle.theory.proofs.Cases.{load_ways, store_ways}
 use Rattle.theory.proofs.Refusals.{cond_zero, name_ok}
@@ -137,7 +137,7 @@ module _ (H : Shape) (laws : Laws H.lay) (pos : 0 < H.page) where
   resolve_runs : (m : Machine) (k p n : ℕ) → refusal (view_m H m) (Resolve k p n) ≡ 0 → Resolved m k p (call H m (Resolve k p n)).next
   resolve_runs m k p n re = rw (eq-eqb (refusal (view_m H m) (Resolve k p n)) 0 re) (resolved_ways m k p (is_busy m.phase && behind H m p) refl)
 
-  pub access_repeats : (start : Machine) → Good H start → AccessRepeats H start
+  pub access_repeats : (start : Machine) → Good H start → AccessRepeatsFrom H start
   access_repeats start good xs ys c k s i p n ac m₀ e₀ t₁ m₁ e₁ qu re q =
       let g₀ = rw (sym e₀) at (good_after H laws pos start good xs) in
       let g₁ = rw (sym e₁) at (good_after H laws pos (call H m₀ c).next (good_call H laws pos m₀ g₀ c) ys) in

@@ -6,7 +6,7 @@ use Rattle.layouts.specs.declared.values.Value.{Value}
 use Rattle.layouts.specs.declared.values.Value.TheVariants.{Nil, Number, Reference}
 use Rattle.model.specs.declared.states.Phase.TheVariants.{Idle}
 use Rattle.theory.specs.Model.{map_v, Layout, sum_to, weight}
-use Rattle.theory.specs.Collect.{Laws, Heap, Flip, size, Reached.root, Clear, FlipOk, St, Pair, Alive, Inv}
+use Rattle.theory.specs.Collect.{Laws, Heap, Flip, size, Reached.root, Clear, FlipOk, St, Pair, Alive, LooseInv}
 use Rattle.theory.specs.Machine.{Shape, half}
 use Rattle.theory.proofs.Basics.{sum_same, or_le, nil≢ref, num≢ref, ref_inj, halves_apart, half_within, twice}
 use Rattle.theory.proofs.Scan.{admits_map_v, reached_here}
@@ -94,7 +94,7 @@ module _ (H : Shape) (laws : Laws H.lay) (sd : ℕ) (which : sd ≤ 1) (st : St)
     small = half_within sd (half H) which H.small;
   }
 
-  inv : Inv L F A st g
+  inv : LooseInv L F A st g
   inv = record {
     many = o.many;
     heads = λ p l. refl;

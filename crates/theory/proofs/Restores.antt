@@ -4,7 +4,7 @@ use Rattle.std.proofs.lemmas.Bool.{cases_eq, cases_lt, cases_Bool, both_ways, eq
 use Rattle.theory.specs.Model.{map_v, Layout, upd}
 use Rattle.layouts.specs.declared.values.Value.{Value}
 use Rattle.layouts.specs.declared.values.Value.TheVariants.{Nil, Number, Reference}
-use Rattle.theory.specs.Collect.{Laws, Heap, Flip, St, Pair, Alive, Inv, size, Clear}
+use Rattle.theory.specs.Collect.{Laws, Heap, Flip, St, Pair, Alive, LooseInv, size, Clear}
 use Rattle.theory.specs.Machine.{Shape, half, Machine, Never, view_m, refusal}
 use Rattle.model.specs.declared.states.Phase.{Phase}
 use Rattle.model.specs.declared.states.Phase.TheVariants.{Idle, Imaging}
@@ -13,8 +13,8 @@ use Rattle.model.specs.declared.calls.Call.TheVariants.{Mark, Save}
 use Rattle.model.specs.Outcomes.{Told.sealed}
 use Rattle.theory.specs.Buffer.{closed_head_word, closed_kind_word, payload, word_for}
 use Rattle.theory.specs.Steps.{call}
-use Rattle.theory.specs.Image.{used_at, image_word, ImageSealed}
-use Rattle.theory.specs.Restore.{every, row, closed_header_in, slots_in, restored, closed_is_header, closed_refers_well, closed_well_made, closed_well_written, reg_well, word_well, closed_restore_refusal, reg_from, SameHeap, ImageRestores}
+use Rattle.theory.specs.Image.{used_at, image_word, ImageSealedFrom}
+use Rattle.theory.specs.Restore.{every, row, closed_header_in, slots_in, restored, closed_is_header, closed_refers_well, closed_well_made, closed_well_written, reg_well, word_well, closed_restore_refusal, reg_from, SameHeap, ImageRestoresFrom}
 use Rattle.theory.specs.Runs.{after, Quiet, marks}
 use Rattle.theory.proofs.BodyNew.{in_range, out_range}
 use Rattle.theory.proofs.Calls.{load_agrees}
@@ -212,7 +212,7 @@ module _ (H : Shape) (laws : Laws H.lay) (pos : 0 < H.page) (m : Machine) (g : G
         (not_from_true _ (and_from (not (eqb (w 0) 0)) _ (not_from_false _ (ne_eqb (w 0) 0 (omega (arith, size_word)))) (and_from (closed_well_written H w) (closed_well_made H (restored H w)) well_written (well_made (restored H w) same_heap))))
 
 module _ (H : Shape) (laws : Laws H.lay) (pos : 0 < H.page) where
-  pub image_restores : (start : Machine) → Good H start → ImageRestores H start
+  pub image_restores : (start : Machine) → Good H start → ImageRestoresFrom H start
   image_restores start good xs ys zs n n₂ m₀ e₀ re m₁ e₁ q₁ t m₂ e₂ q₂ k l =
       let g₀ = rw (sym e₀) at (good_after H laws pos start good xs) in
       let h = image_sealed H laws pos start good xs ys zs n n₂ m₀ e₀ re m₁ e₁ q₁ t m₂ e₂ q₂ in

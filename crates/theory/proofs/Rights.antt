@@ -5,7 +5,7 @@ use Rattle.std.proofs.lemmas.Bool.Decides.{nat_tests}
 use Rattle.theory.specs.Model.{map_v, Layout, upd, sum_to, weight}
 use Rattle.layouts.specs.declared.values.Value.{Value}
 use Rattle.layouts.specs.declared.values.Value.TheVariants.{Nil, Number, Reference}
-use Rattle.theory.specs.Collect.{Laws, Heap, Flip, FlipOk, St, Pair, Inv, size, forward_regs}
+use Rattle.theory.specs.Collect.{Laws, Heap, Flip, FlipOk, St, Pair, LooseInv, size, forward_regs}
 use Rattle.theory.specs.Machine.{Shape, half, whole, Machine, Never, view_m, refusal, is_busy, closed_is_idle, closed_is_imaging, Found, Found.none, Found.found, ran_page, begins, grant}
 use Rattle.model.specs.declared.states.State.{State}
 use Rattle.model.specs.declared.states.Phase.{Phase}

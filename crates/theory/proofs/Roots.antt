@@ -4,17 +4,17 @@ use Rattle.std.proofs.lemmas.Bool.{cases_eq, cases_lt, cases_Bool, both_ways}
 use Rattle.theory.specs.Model.{map_v, Layout, upd, blit, sum_to, weight}
 use Rattle.layouts.specs.declared.values.Value.{Value}
 use Rattle.layouts.specs.declared.values.Value.TheVariants.{Nil, Number, Reference}
-use Rattle.theory.specs.Collect.{Laws, Heap, Flip, size, Reached, Reached.root, Reached.step, FlipOk, St, Pair, Alive, Inv, Grows, forward, forward_reg, forward_regs, Side}
+use Rattle.theory.specs.Collect.{Laws, Heap, Flip, size, Reached, Reached.root, Reached.step, FlipOk, St, Pair, Alive, LooseInv, Grows, forward, forward_reg, forward_regs, LooseSide}
 use Rattle.theory.proofs.Basics.{upd_same, upd_other, upd_at}
 use Rattle.theory.proofs.Copy.{map_v_same, alive_more}
 use Rattle.theory.proofs.Forward.{Forwarded, forward_keeps, grows_refl, grows_trans}
 
 pub record Rooted (L : Layout) (P : ℕ) (F : Flip) (A : Heap) (s : St) (g : Pair) (reg : ℕ → Value) (n : ℕ) (r : St × (ℕ → Value)) : Type 0 where
   pub pair : Pair
-  pub inv : Inv L F A r.0 pair
+  pub inv : LooseInv L F A r.0 pair
   pub grows : Grows g pair
   pub done : pair.done ≡ g.done
-  pub side : Side L P F A s g → Side L P F A r.0 pair
+  pub side : LooseSide L P F A s g → LooseSide L P F A r.0 pair
   pub rises : s.top ≤ r.0.top
   pub past : (j : ℕ) → j < n → (r.1 j ≡ map_v pair.to (F.reg j)) × Alive pair.live (F.reg j)
   pub rest : (j : ℕ) → n ≤ j → r.1 j ≡ reg j
@@ -23,7 +23,7 @@ pub record Rooted (L : Layout) (P : ℕ) (F : Flip) (A : Heap) (s : St) (g : Pai
 pub follows : (g g' : Pair) → Grows g g' → (x v : Value) → (x ≡ map_v g.to v) × Alive g.live v → (x ≡ map_v g'.to v) × Alive g'.live v
 follows g g' gr x v h = (h.0 ∙ sym (map_v_same g.live g.to g'.to v h.1 gr.to), alive_more g.live g'.live v h.1 gr.live)
 
-module _ (L : Layout) (laws : Laws L) (P : ℕ) (F : Flip) (ok : FlipOk L F) (A : Heap) (s₀ : St) (g : Pair) (inv₀ : Inv L F A s₀ g) (room : F.start + F.used ≤ g.limit)
+module _ (L : Layout) (laws : Laws L) (P : ℕ) (F : Flip) (ok : FlipOk L F) (A : Heap) (s₀ : St) (g : Pair) (inv₀ : LooseInv L F A s₀ g) (room : F.start + F.used ≤ g.limit)
     (reg : ℕ → Value) (regs : (j : ℕ) → j < F.regs → reg j ≡ map_v F.addr (F.reg j)) where
   -- register n beyond those below it
   module _ (n : ℕ) (l : n < F.regs) (s : St) (r : ℕ → Value) (o : Rooted L P F A s₀ g reg n (s, r)) where

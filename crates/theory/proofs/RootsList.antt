@@ -4,7 +4,7 @@ use Rattle.std.specs.List.{AllByRecursion as All}
 use Rattle.theory.specs.Model.{map_v, Layout, upd}
 use Rattle.layouts.specs.declared.values.Value.{Value}
 use Rattle.layouts.specs.declared.values.Value.TheVariants.{Nil, Number, Reference}
-use Rattle.theory.specs.Collect.{Laws, Heap, Flip, Reached, FlipOk, St, Pair, Alive, Inv, Side, Grows, forward}
+use Rattle.theory.specs.Collect.{Laws, Heap, Flip, Reached, FlipOk, St, Pair, Alive, LooseInv, LooseSide, Grows, forward}
 use Rattle.theory.proofs.Copy.{map_v_same, alive_more}
 use Rattle.theory.proofs.Forward.{Forwarded, forward_keeps, grows_refl, grows_trans}
 
@@ -25,20 +25,20 @@ RootV L F (Reference q) = (F.here q ≡ true) × Reached L F q
 
 pub record ValueDone (L : Layout) (P : ℕ) (F : Flip) (A : Heap) (g : Pair) (v : Value) (r : St × Value) : Type 0 where
   pub pair : Pair
-  pub inv : Inv L F A r.0 pair
+  pub inv : LooseInv L F A r.0 pair
   pub grows : Grows g pair
   pub is : r.1 ≡ map_v pair.to v
   pub alive : Alive pair.live v
 
 pub record ListDone (L : Layout) (P : ℕ) (F : Flip) (A : Heap) (g : Pair) (vs : List Value) (r : St × List Value) : Type 0 where
   pub pair : Pair
-  pub inv : Inv L F A r.0 pair
+  pub inv : LooseInv L F A r.0 pair
   pub grows : Grows g pair
   pub is : r.1 ≡ map (map_v pair.to) vs
   pub alive : All (Alive pair.live) vs
 
 module _ (L : Layout) (laws : Laws L) (P : ℕ) (F : Flip) (ok : FlipOk L F) (A : Heap) where
-  value_keeps : (v : Value) (s : St) (g : Pair) → Inv L F A s g → F.start + F.used ≤ g.limit → RootV L F v → ValueDone L P F A g v (forward_value L P s (map_v F.addr v))
+  value_keeps : (v : Value) (s : St) (g : Pair) → LooseInv L F A s g → F.start + F.used ≤ g.limit → RootV L F v → ValueDone L P F A g v (forward_value L P s (map_v F.addr v))
   value_keeps Nil s g inv room r = record { pair = g; inv = inv; grows = grows_refl g; is = refl; alive = tt }
   value_keeps (Number n) s g inv room r = record { pair = g; inv = inv; grows = grows_refl g; is = refl; alive = tt }
   value_keeps (Reference q) s g inv room r =
@@ -54,7 +54,7 @@ module _ (L : Layout) (laws : Laws L) (P : ℕ) (F : Flip) (ok : FlipOk L F) (A 
     alive = (alive_more x.pair.live o.pair.live v x.alive o.grows.live, o.alive);
   }
 
-  pub list_keeps : (vs : List Value) (s : St) (g : Pair) → Inv L F A s g → F.start + F.used ≤ g.limit → All (RootV L F) vs → ListDone L P F A g vs (forward_list L P s (map (map_v F.addr) vs))
+  pub list_keeps : (vs : List Value) (s : St) (g : Pair) → LooseInv L F A s g → F.start + F.used ≤ g.limit → All (RootV L F) vs → ListDone L P F A g vs (forward_list L P s (map (map_v F.addr) vs))
   unfolding forward_list
   list_keeps [] s g inv room r = record { pair = g; inv = inv; grows = grows_refl g; is = refl; alive = tt }
   list_keeps (v ∷ vs) s g inv room r =

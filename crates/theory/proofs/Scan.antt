@@ -5,7 +5,7 @@ use Rattle.theory.specs.Model.{map_v, Layout, upd, blit, sum_to, weight}
 use Rattle.layouts.specs.declared.values.Value.{Value}
 use Rattle.layouts.specs.declared.values.Value.TheVariants.{Nil, Number, Reference}
 use Rattle.layouts.specs.Layouts.{addressable}
-use Rattle.theory.specs.Collect.{Laws, Heap, Flip, size, Reached, Reached.root, Reached.step, Clear, FlipOk, St, Pair, Alive, Inv, Grows, Writes, Sets, forward, scan_slot, rescan, Side}
+use Rattle.theory.specs.Collect.{Laws, Heap, Flip, size, Reached, Reached.root, Reached.step, Clear, FlipOk, St, Pair, Alive, LooseInv, Grows, Writes, Sets, forward, scan_slot, rescan, LooseSide}
 use Rattle.theory.proofs.Basics.{upd_same, upd_other, upd_at, or_le, sum_same, nil≢ref, num≢ref, ref_inj}
 use Rattle.theory.proofs.Copy.{near_map_v, in_to, start_top}
 use Rattle.theory.proofs.Forward.{Forwarded, forward_keeps, grows_refl, grows_trans}
@@ -13,10 +13,10 @@ use Rattle.theory.proofs.Write.{marked, write_keeps}
 
 pub record Scanned (L : Layout) (P : ℕ) (F : Flip) (A : Heap) (s : St) (g : Pair) (a : ℕ) (s' : St) : Type 0 where
   pub pair : Pair
-  pub inv : Inv L F A s' pair
+  pub inv : LooseInv L F A s' pair
   pub grows : Grows g pair
   pub done : pair.done ≡ upd g.done a true
-  pub side : Side L P F A s g → Side L P F A s' pair
+  pub side : LooseSide L P F A s g → LooseSide L P F A s' pair
   pub rises : s.top ≤ s'.top
 
 pub sets_none : (A : Heap) (p i : ℕ) (v : Value) → A.val p i ≡ v → Sets A A p i v
@@ -29,7 +29,7 @@ pub writes_upd : (s : St) (a w : ℕ) → Writes s (record { mem = upd s.mem a w
 writes_upd s a w = record { word = upd_same s.mem a w; rest = λ b ne. upd_other s.mem a b w ne; end = refl; low = refl; right = refl; cross = refl }
 
 -- one more address scanned
-pub mark_side : (L : Layout) (P : ℕ) (F : Flip) (A : Heap) (s : St) (g : Pair) (a : ℕ) → Side L P F A s g → Side L P F A s (marked g a)
+pub mark_side : (L : Layout) (P : ℕ) (F : Flip) (A : Heap) (s : St) (g : Pair) (a : ℕ) → LooseSide L P F A s g → LooseSide L P F A s (marked g a)
 mark_side L P F A s g a o = record {
   opens = λ x l b r. elim (cases_eq x a) [ inl e ↦ upd_at g.done a x true e | inr ne ↦ upd_other g.done a x true ne ∙ o.opens x l b r ];
   cross = o.cross;
@@ -41,7 +41,7 @@ admits_map_v L laws h i f Nil e = e
 admits_map_v L laws h i f (Number n) e = e
 admits_map_v L laws h i f (Reference q) e = laws.any_ref h i (f q) q ∙ e
 
-module _ (L : Layout) (laws : Laws L) (P : ℕ) (F : Flip) (ok : FlipOk L F) (A : Heap) (s : St) (g : Pair) (inv : Inv L F A s g) (room : F.start + F.used ≤ g.limit) where
+module _ (L : Layout) (laws : Laws L) (P : ℕ) (F : Flip) (ok : FlipOk L F) (A : Heap) (s : St) (g : Pair) (inv : LooseInv L F A s g) (room : F.start + F.used ≤ g.limit) where
   module _ (p i : ℕ) (l : g.live p ≡ true) (m : p < F.old.many) (b : i < L.slots (A.hdr p)) (u : g.done (g.to p + suc i) ≡ false) where
     abbrev at : ℕ
     at = g.to p + suc i
@@ -105,12 +105,12 @@ module _ (L : Layout) (laws : Laws L) (P : ℕ) (F : Flip) (ok : FlipOk L F) (A 
     scan_keeps = rw (read (F.old.val p i) refl) (scan_as (F.old.val p i) refl)
 
 -- an address that is no slot's counts as scanned with no change: a header's
-module _ (L : Layout) (F : Flip) (ok : FlipOk L F) (A : Heap) (s : St) (g : Pair) (inv : Inv L F A s g) (a : ℕ) (below : a < s.top)
+module _ (L : Layout) (F : Flip) (ok : FlipOk L F) (A : Heap) (s : St) (g : Pair) (inv : LooseInv L F A s g) (a : ℕ) (below : a < s.top)
     (free : (p i : ℕ) → g.live p ≡ true → i < L.slots (A.hdr p) → g.to p + suc i ≢ a) where
   same : (b : ℕ) (t : Bool) → b ≢ a → upd g.done a true b ≡ t → g.done b ≡ t
   same b t ne e = sym (upd_other g.done a b true ne) ∙ e
 
-  pub mark_keeps : Inv L F A s (marked g a)
+  pub mark_keeps : LooseInv L F A s (marked g a)
   mark_keeps = record {
     many = inv.many;
     heads = inv.heads;
@@ -139,7 +139,7 @@ module _ (L : Layout) (F : Flip) (ok : FlipOk L F) (A : Heap) (s : St) (g : Pair
     new = λ p i l m b. upd_other g.done a (g.to p + suc i) true (free p i l b) ∙ inv.new p i l m b;
   }
 
-module _ (L : Layout) (F : Flip) (ok : FlipOk L F) (A : Heap) (s : St) (g : Pair) (inv : Inv L F A s g) where
+module _ (L : Layout) (F : Flip) (ok : FlipOk L F) (A : Heap) (s : St) (g : Pair) (inv : LooseInv L F A s g) where
   pub head_free : (q : ℕ) → g.live q ≡ true → (p i : ℕ) → g.live p ≡ true → i < L.slots (A.hdr p) → g.to p + suc i ≢ g.to q
   head_free q k p i l b e = elim (cases_eq p q) [
     | inl t ↦ (let u : g.to p ≡ g.to q = ap g.to t in omega arith)
@@ -162,7 +162,7 @@ module _ (L : Layout) (F : Flip) (ok : FlipOk L F) where
   reached_here (root {p = x} k l e) = ok.roots k x l e
   reached_here (step {p = x} i q r l e) = ok.closed x i q (reached_here r) l e
 
-  module _ (A : Heap) (s : St) (g : Pair) (inv : Inv L F A s g)
+  module _ (A : Heap) (s : St) (g : Pair) (inv : LooseInv L F A s g)
       (rooted : (k p : ℕ) → k < F.regs → F.reg k ≡ Reference p → g.live p ≡ true)
       (all : (a : ℕ) → F.start ≤ a → a < s.top → g.done a ≡ true) where
     -- one step of the induction

@@ -11,7 +11,7 @@ use Rattle.model.specs.declared.calls.Call.{Call}
 use Rattle.model.specs.declared.calls.Call.TheVariants.{New, Load, Store, Copy, SetNumber, SetNil, Same, Tell, Count, Flip as Turn, Step, Take, Resolve, Mark, Save}
 use Rattle.model.specs.Outcomes.{Told, Told.sealed, Told.nothing}
 use Rattle.theory.specs.Steps.{call, act, denied, save, saved, seal, mark_now, save_page, lowest_pend, Outcome}
-use Rattle.theory.specs.Image.{image_word, ImageSealed, saves, Saving, Saving.begun, Saving.goes, SealBound}
+use Rattle.theory.specs.Image.{image_word, ImageSealedFrom, saves, Saving, Saving.begun, Saving.goes, SealBound}
 use Rattle.theory.specs.Runs.{after, Quiet, marks}
 use Rattle.theory.proofs.Basics.{upd_same, upd_other, upd_at, lowest_passes, lowest_fails, lowest_least}
 use Rattle.theory.proofs.Refusals.{cond_zero}
@@ -53,7 +53,7 @@ module _ (H : Shape) (laws : Laws H.lay) (pos : 0 < H.page) where
       let h = held m₀ (call H m₁ (Save n₂)).next o₂ (λ z. idle≢imaging (sym (seals m₁ n₂ t) ∙ z)) in
       rw e₂ (held_after H laws pos m₀ (call H m₁ (Save n₂)).next (λ z. idle≢imaging (sym (seals m₁ n₂ t) ∙ z)) h zs q)
 
-  pub image_sealed : (start : Machine) → Good H start → ImageSealed H start
+  pub image_sealed : (start : Machine) → Good H start → ImageSealedFrom H start
   image_sealed start good xs ys zs n n₂ m₀ e₀ re m₁ e₁ q₁ t m₂ e₂ q₂ =
       let g₀ = rw (sym e₀) at (good_after H laws pos start good xs) in
       let o₁ = rw (sym e₁) at (imaged_after H laws pos m₀ (call H m₀ (Mark n)).next (marked m₀ n g₀.rights re) ys q₁) in

@@ -5,7 +5,7 @@ use Rattle.std.proofs.lemmas.Bool.{cases_eq, cases_lt, cases_Bool, both_ways, eq
 use Rattle.theory.specs.Model.{map_v, Layout, upd, sum_to, weight}
 use Rattle.layouts.specs.declared.values.Value.{Value}
 use Rattle.layouts.specs.declared.values.Value.TheVariants.{Nil, Number, Reference}
-use Rattle.theory.specs.Collect.{Laws, Heap, Flip, FlipOk, St, Pair, Alive, Inv, Side}
+use Rattle.theory.specs.Collect.{Laws, Heap, Flip, FlipOk, St, Pair, Alive, LooseInv, LooseSide}
 use Rattle.theory.specs.Reach.{closed_reached_words}
 use Rattle.theory.specs.Machine.{fault, Shape, half, whole, Found, Found.none, Found.found, refused, trapped, fine, says, number, Machine, Never, at, view_m, view_a, refusal, bad, head_of, refs, closed_is_idle, is_busy, closed_is_imaging, is_hand, closed_is_running, lowest, ran_page, grant}
 use Rattle.model.specs.declared.states.State.{State}

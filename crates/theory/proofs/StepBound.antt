@@ -5,7 +5,7 @@ use Rattle.std.proofs.lemmas.Bool.{cases_eq, cases_lt, cases_Bool, both_ways, eq
 use Rattle.theory.specs.Model.{map_v, Layout, upd, sum_to, weight}
 use Rattle.layouts.specs.declared.values.Value.{Value}
 use Rattle.layouts.specs.declared.values.Value.TheVariants.{Nil, Number, Reference}
-use Rattle.theory.specs.Collect.{Laws, Heap, Flip, FlipOk, Reached, St, Pair, Inv, size}
+use Rattle.theory.specs.Collect.{Laws, Heap, Flip, FlipOk, Reached, St, Pair, LooseInv, size}
 use Rattle.theory.specs.Reach.{closed_reached_words, reaches}
 use Rattle.theory.specs.Machine.{Shape, half, Machine, Never, view_m, refusal, is_busy, closed_is_idle, closed_is_imaging, Found, Found.none, Found.found, ran_page}
 use Rattle.model.specs.declared.states.State.{State}
@@ -15,7 +15,7 @@ use Rattle.model.specs.declared.calls.Call.{Call}
 use Rattle.model.specs.declared.calls.Call.TheVariants.{New, Load, Store, Copy, SetNumber, SetNil, Same, Tell, Count, Flip as Turn, Step, Take, Resolve, Mark, Save}
 use Rattle.model.specs.Outcomes.{Told}
 use Rattle.theory.specs.Steps.{call, n_call, act, denied, step, stepped, resolved, resolved_save, closed_new_at, lowest_behind, behind, scan_page, finish, Outcome}
-use Rattle.theory.specs.Bounds.{steps, Stepping, Stepping.flips, Stepping.goes, closed_pages_for, StepBound}
+use Rattle.theory.specs.Bounds.{steps, SteppingFrom, SteppingFrom.flips, SteppingFrom.goes, closed_pages_for, StepBoundFrom}
 use Rattle.theory.proofs.Basics.{upd_same, upd_other, upd_at, lowest_passes, lowest_fails, lowest_least, sum_mono, weight_mono}
 use Rattle.theory.proofs.Reach.{reaches_all}
 use Rattle.theory.proofs.Cases.{load_ways, store_ways}
@@ -254,7 +254,7 @@ module _ (H : Shape) (laws : Laws H.lay) (pos : 0 < H.page) where
         (rw (step_runs m pc) (past_step H laws pos F m a w pc n p (lowest_behind H m) refl)) q
   ]
 
-  paced : {m₀ : Machine} {a₀ : Never} → SimOf H m₀ a₀ → {n : ℕ} {m : Machine} {a : Never} → Stepping H m₀ a₀ n m a → Paced H n m a
+  paced : {m₀ : Machine} {a₀ : Never} → SimOf H m₀ a₀ → {n : ℕ} {m : Machine} {a : Never} → SteppingFrom H m₀ a₀ n m a → Paced H n m a
   paced {m₀ = m₀} {a₀ = a₀} s (flips e) =
       let o = simulate H laws pos s.flip m₀ a₀ s.world Turn in
       record { flip = o.flip; world = o.world; past = λ pc. record { full = λ j l. absurd (omega arith); more = inl refl } }
@@ -263,5 +263,5 @@ module _ (H : Shape) (laws : Laws H.lay) (pos : 0 < H.page) where
       let o = simulate H laws pos b.flip m a b.world c in
       record { flip = o.flip; world = o.world; past = paced_on n m a b.flip b.world pc (b.past pc) c }
 
-  pub step_bound : (m₀ : Machine) (a₀ : Never) → SimOf H m₀ a₀ → StepBound H m₀ a₀
+  pub step_bound : (m₀ : Machine) (a₀ : Never) → SimOf H m₀ a₀ → StepBoundFrom H m₀ a₀
   step_bound m₀ a₀ f n m a s pc = let b = paced f s in past_bound H laws pos b.flip m a b.world pc n (b.past pc)

@@ -11,7 +11,7 @@ use Rattle.model.specs.declared.calls.Call.{Call}
 use Rattle.model.specs.declared.calls.Call.TheVariants.{New, Load, Store, Copy, SetNumber, SetNil, Same, Tell, Count, Flip as Turn, Step, Take, Resolve, Mark, Save}
 use Rattle.model.specs.declared.calls.Answer.{Answer}
 use Rattle.theory.specs.Steps.{Outcome, call, act, addr_of, slot_at, closed_kind_of, step, stepped, save, saved, save_page, lowest_pend, lowest_behind, scan_page, resolved, resolved_save, behind}
-use Rattle.theory.specs.Runs.{after, Accesses, Accesses.loads, Accesses.stores, TrapsIn, TrapsWhen}
+use Rattle.theory.specs.Runs.{after, Accesses, Accesses.loads, Accesses.stores, TrapsIn, TrapsWhenFrom}
 use Rattle.theory.proofs.Cases.{load_ways}
 use Rattle.theory.proofs.Copy.{start_top}
 use Rattle.theory.proofs.NewRepeats.{new_edge}
@@ -104,7 +104,7 @@ module _ (H : Shape) (laws : Laws H.lay) (pos : 0 < H.page) where
   traps_at m g (Mark n) p t u = absurd (fine≢ p u)
   traps_at m g (Save n) p t u = absurd (save≢ m (lowest_pend H m) p u)
 
-  pub traps_when : (start : Machine) → Good H start → TrapsWhen H start
+  pub traps_when : (start : Machine) → Good H start → TrapsWhenFrom H start
   traps_when start good xs c p m e t =
       let a = trap_acts H laws pos m c p t in
       traps_at m (rw (sym e) at (good_after H laws pos start good xs)) c p t (rw a.1 at t)

@@ -5,7 +5,7 @@ use Rattle.std.proofs.lemmas.Bool.Decides.{nat_tests}
 use Rattle.theory.specs.Model.{map_v, Layout, upd, blit, sum_to, weight}
 use Rattle.layouts.specs.declared.values.Value.{Value}
 use Rattle.layouts.specs.declared.values.Value.TheVariants.{Nil, Number, Reference}
-use Rattle.theory.specs.Collect.{Laws, Heap, Flip, size, Reached, Clear, FlipOk, St, Pair, Alive, Inv, Side, Grows, scan_slot, scan_at, closed_head_at, scan_run, forward_regs}
+use Rattle.theory.specs.Collect.{Laws, Heap, Flip, size, Reached, Clear, FlipOk, St, Pair, Alive, LooseInv, LooseSide, Grows, scan_slot, scan_at, closed_head_at, scan_run, forward_regs}
 use Rattle.theory.specs.Reach.{closed_reached_words}
 use Rattle.theory.specs.Machine.{Shape, half, whole, Machine, Never, View, view_m, view_a, is_busy, refs, head_of}
 use Rattle.model.specs.declared.states.State.{State}
@@ -57,8 +57,8 @@ Phased H F st scan used A l u g Imaging = Rest H F st A l g
 pub record Body (H : Shape) (flip : Flip) (st : St) (scan : ℕ → ℕ) (half_is used : ℕ) (reg : ℕ → Value) (phase : Phase) (A : Heap) (areg : ℕ → Value) (l n u : ℕ) : Type 0 where
   pub pair : Pair
   pub ok : FlipOk H.lay flip
-  pub inv : Inv H.lay flip A st pair
-  pub side : Side H.lay H.page flip A st pair
+  pub inv : LooseInv H.lay flip A st pair
+  pub side : LooseSide H.lay H.page flip A st pair
   pub regs : (k : ℕ) → k < 32 → (reg k ≡ map_v pair.to (areg k)) × Alive pair.live (areg k)
   pub which : half_is ≤ 1
   pub start : flip.start ≡ half_is * half H

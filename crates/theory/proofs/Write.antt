@@ -4,7 +4,7 @@ use Rattle.std.proofs.lemmas.Bool.{eq-eqb, ne_eqb, cases_eq, cases_lt, cases_Boo
 use Rattle.theory.specs.Model.{map_v, Layout, upd, blit, sum_to, weight}
 use Rattle.layouts.specs.declared.values.Value.{Value}
 use Rattle.layouts.specs.declared.values.Value.TheVariants.{Nil, Number, Reference}
-use Rattle.theory.specs.Collect.{Laws, Heap, Flip, size, Reached, Clear, FlipOk, St, Pair, Alive, Inv, Grows, Writes, Sets}
+use Rattle.theory.specs.Collect.{Laws, Heap, Flip, size, Reached, Clear, FlipOk, St, Pair, Alive, LooseInv, Grows, Writes, Sets}
 use Rattle.theory.proofs.Basics.{upd_same, upd_other, upd_at, or_le, sum_same}
 use Rattle.theory.proofs.Copy.{in_to, start_top}
 
@@ -12,7 +12,7 @@ use Rattle.theory.proofs.Copy.{in_to, start_top}
 abbrev pub marked : Pair → ℕ → Pair
 marked g a = record { live = g.live; to = g.to; done = upd g.done a true; limit = g.limit }
 
-module _ (L : Layout) (F : Flip) (ok : FlipOk L F) (A : Heap) (s : St) (g : Pair) (inv : Inv L F A s g) where
+module _ (L : Layout) (F : Flip) (ok : FlipOk L F) (A : Heap) (s : St) (g : Pair) (inv : LooseInv L F A s g) where
   -- two slots of paired objects at one address are one slot
   pub same_slot : (p i q j : ℕ) → g.live p ≡ true → i < L.slots (A.hdr p) → g.live q ≡ true → j < L.slots (A.hdr q) → g.to q + suc j ≡ g.to p + suc i → (q ≡ p) × (j ≡ i)
   same_slot p i q j l b l₂ b₂ e = elim (cases_eq q p) [
@@ -106,7 +106,7 @@ module _ (L : Layout) (F : Flip) (ok : FlipOk L F) (A : Heap) (s : St) (g : Pair
     total' : sum_to A'.many (weight (size L A') g.live) + F.start + s'.low ≡ s'.top + F.last
     total' = rw se.many (omega (arith, w.end, w.low, inv.total, sum_same (weight (size L A') g.live) (weight (size L A) g.live) A.many (λ q k. ap (λ n. cond (g.live q) n 0) (sz q))))
 
-    pub write_keeps : Inv L F A' s' (marked g at)
+    pub write_keeps : LooseInv L F A' s' (marked g at)
     write_keeps = record {
       many = rw se.many inv.many;
       heads = λ q k. se.hdr q ∙ inv.heads q k;

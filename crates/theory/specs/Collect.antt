@@ -80,7 +80,7 @@ Alive live (Reference q) = live q ≡ true
 abbrev pub Room : Flip → Pair → Type 0
 Room F g = F.start + F.used ≤ g.limit
 
-pub record Inv (L : Layout) (F : Flip) (A : Heap) (s : St) (g : Pair) : Type 0 where
+pub record LooseInv (L : Layout) (F : Flip) (A : Heap) (s : St) (g : Pair) : Type 0 where
   -- the objects
   pub many : F.old.many ≤ A.many
   pub heads : (p : ℕ) → p < F.old.many → A.hdr p ≡ F.old.hdr p
@@ -190,7 +190,7 @@ forward_regs L P s reg zero = (s, reg)
 forward_regs L P s reg (suc n) = forward_reg L P (forward_regs L P s reg n).0 (forward_regs L P s reg n).1 n ((forward_regs L P s reg n).1 n)
 
 -- a page of to-space that can be read has no unscanned word; the crossing map has the header of the object with a page's first word
-pub record Side (L : Layout) (P : ℕ) (F : Flip) (A : Heap) (s : St) (g : Pair) : Type 0 where
+pub record LooseSide (L : Layout) (P : ℕ) (F : Flip) (A : Heap) (s : St) (g : Pair) : Type 0 where
   pub opens : (x : ℕ) → F.start ≤ x → x < s.top → s.right (x / P) ≢ 0 → g.done x ≡ true
   pub cross : Room F g → (n : ℕ) → F.start ≤ n * P → n * P < s.top → (q : ℕ) × (g.live q ≡ true) × (q < F.old.many) × (s.cross n ≡ g.to q) × (g.to q ≤ n * P) × (n * P < g.to q + size L A q)
 
@@ -222,3 +222,39 @@ closed_head_at L s hd a = cond (a == hd + suc (L.slots (s.mem hd))) a hd
 abbrev pub scan_run : Layout → ℕ → ℕ → ℕ → St → ℕ → ℕ → St × ℕ
 scan_run L P e zero s hd a = (s, a)
 scan_run L P e (suc k) s hd a = cond (nat_lt a (min e s.top)) (scan_run L P e k (scan_at L P s (closed_head_at L s hd a) a) (closed_head_at L s hd a) (suc a)) (s, a)
+
+pub record Inv (L : Layout) (F : Flip) (A : Heap) (s : St) (g : Pair) : Type 0 where
+  -- the objects
+  pub many : F.old.many ≤ A.many
+  pub heads : (p : ℕ) → p < F.old.many → A.hdr p ≡ F.old.hdr p
+  pub below : (p : ℕ) → g.live p ≡ true → p < A.many
+  pub came : (p : ℕ) → g.live p ≡ true → p < F.old.many → (F.here p ≡ true) × Reached L F p
+  pub news : (p : ℕ) → F.old.many ≤ p → p < A.many → g.live p ≡ true
+  pub valid : (p : ℕ) → g.live p ≡ true → L.head (A.hdr p) ≡ true
+  pub fits : (p i : ℕ) → g.live p ≡ true → i < L.slots (A.hdr p) → L.admits (A.hdr p) i (A.val p i) ≡ true
+  -- where they lie
+  pub limits : (s.top ≤ g.limit) × (g.limit ≤ s.low) × (s.low ≤ F.last)
+  pub total : sum_to A.many (weight (size L A) g.live) + F.start + s.low ≡ s.top + F.last
+  pub ends : s.top ≡ F.start + sum_to F.old.many (weight (size L F.old) g.live)
+  pub within : (p : ℕ) → g.live p ≡ true → p < F.old.many → (F.start ≤ g.to p) × (g.to p + size L A p ≤ s.top)
+  pub beyond : (p : ℕ) → g.live p ≡ true → F.old.many ≤ p → (s.low ≤ g.to p) × (g.to p + size L A p ≤ F.last)
+  pub apart : (p q : ℕ) → g.live p ≡ true → g.live q ≡ true → p ≢ q → Clear (g.to p) (size L A p) (g.to q) (size L A q)
+  pub cover : (a : ℕ) → F.start ≤ a → a < s.top → (p : ℕ) × (g.live p ≡ true) × (p < F.old.many) × (g.to p ≤ a) × (a < g.to p + size L A p)
+  pub cover_new : (a : ℕ) → s.low ≤ a → a < F.last → (p : ℕ) × (g.live p ≡ true) × (F.old.many ≤ p) × (g.to p ≤ a) × (a < g.to p + size L A p)
+  -- from-space
+  pub gone : (p : ℕ) → F.here p ≡ true → g.live p ≡ true → s.mem (F.addr p) ≡ 2 * g.to p
+  pub kept : (p : ℕ) → F.here p ≡ true → g.live p ≡ false → s.mem (F.addr p) ≡ F.old.hdr p
+  pub kept_slot : (p i : ℕ) → F.here p ≡ true → g.live p ≡ false → i < L.slots (F.old.hdr p) → s.mem (F.addr p + suc i) ≡ L.pack (F.old.hdr p) i (map_v F.addr (F.old.val p i))
+  pub kept_same : (p i : ℕ) → F.here p ≡ true → g.live p ≡ false → i < L.slots (F.old.hdr p) → A.val p i ≡ F.old.val p i
+  -- to-space
+  pub head : (p : ℕ) → g.live p ≡ true → s.mem (g.to p) ≡ A.hdr p
+  pub raw : (p i : ℕ) → g.live p ≡ true → p < F.old.many → i < L.slots (A.hdr p) → g.done (g.to p + suc i) ≡ false → (s.mem (g.to p + suc i) ≡ L.pack (A.hdr p) i (map_v F.addr (F.old.val p i))) × (A.val p i ≡ F.old.val p i)
+  pub ready : (p i : ℕ) → g.live p ≡ true → i < L.slots (A.hdr p) → g.done (g.to p + suc i) ≡ true → (s.mem (g.to p + suc i) ≡ L.pack (A.hdr p) i (map_v g.to (A.val p i))) × Alive g.live (A.val p i)
+  pub traced : (p i q : ℕ) → g.live p ≡ true → p < F.old.many → i < L.slots (A.hdr p) → g.done (g.to p + suc i) ≡ true → F.old.val p i ≡ Reference q → g.live q ≡ true
+  pub fresh : (a : ℕ) → s.top ≤ a → a < g.limit → g.done a ≡ false
+  pub new : (p i : ℕ) → g.live p ≡ true → F.old.many ≤ p → i < L.slots (A.hdr p) → g.done (g.to p + suc i) ≡ true
+
+-- a page of to-space that can be read has no unscanned word; the crossing map has the header of the object with a page's first word
+pub record Side (L : Layout) (P : ℕ) (F : Flip) (A : Heap) (s : St) (g : Pair) : Type 0 where
+  pub opens : (x : ℕ) → F.start ≤ x → x < s.top → s.right (x / P) ≢ 0 → g.done x ≡ true
+  pub cross : (n : ℕ) → F.start ≤ n * P → n * P < s.top → (q : ℕ) × (g.live q ≡ true) × (q < F.old.many) × (s.cross n ≡ g.to q) × (g.to q ≤ n * P) × (n * P < g.to q + size L A q)

@@ -9,7 +9,7 @@ use Rattle.model.specs.declared.calls.Call.{Call}
 use Rattle.model.specs.declared.calls.Call.TheVariants.{New, Load, Store, Copy, SetNumber, SetNil, Same, Tell, Count, Flip as Turn, Step, Take, Resolve, Mark, Save}
 use Rattle.model.specs.Outcomes.{Told, Told.sealed}
 use Rattle.theory.specs.Buffer.{closed_head_word, word_for}
-use Rattle.theory.specs.Steps.{call}
+use Rattle.theory.specs.Steps.{call, fresh_m}
 use Rattle.theory.specs.Runs.{after, Quiet, marks}
 
 -- the word at x is used
@@ -21,8 +21,8 @@ abbrev pub image_word : Shape → Machine → ℕ → ℕ
 image_word H m j = cond (j == 0) H.page (cond (nat_lt j 70) (closed_head_word H m j) (cond (used_at m (word_for H m.side j)) (m.st.mem (word_for H m.side j)) 0))
 
 -- MARK at m₀ and a SAVE that seals, with no MARK accepted between or after: the buffer holds the image of m₀
-abbrev pub ImageSealed : Shape → Machine → Type 0
-ImageSealed H start = (xs ys zs : List Call) (n n₂ : ℕ) →
+abbrev pub ImageSealedFrom : Shape → Machine → Type 0
+ImageSealedFrom H start = (xs ys zs : List Call) (n n₂ : ℕ) →
     (m₀ : Machine) → m₀ ≡ after H start xs → refusal (view_m H m₀) (Mark n) ≡ 0 →
     (m₁ : Machine) → m₁ ≡ after H (call H m₀ (Mark n)).next ys → Quiet H marks (call H m₀ (Mark n)).next ys → (call H m₁ (Save n₂)).told ≡ sealed →
     (m₂ : Machine) → m₂ ≡ after H (call H m₁ (Save n₂)).next zs → Quiet H marks (call H m₁ (Save n₂)).next zs →
@@ -54,3 +54,11 @@ pub data Saving (H : Shape) : ℕ → Machine → Type 0 where
 -- an image under way has had fewer SAVEs than a half has pages
 abbrev pub SealBound : Shape → Type 0
 SealBound H = (n : ℕ) (m : Machine) → Saving H n m → m.phase ≡ Imaging → n < H.pages
+
+-- MARK at m₀ and a SAVE that seals, with no MARK accepted between or after: the buffer holds the image of m₀
+abbrev pub ImageSealed : Shape → Type 0
+ImageSealed H = (lent : ℕ → ℕ) (xs ys zs : List Call) (n n₂ : ℕ) →
+    (m₀ : Machine) → m₀ ≡ after H (fresh_m H lent) xs → refusal (view_m H m₀) (Mark n) ≡ 0 →
+    (m₁ : Machine) → m₁ ≡ after H (call H m₀ (Mark n)).next ys → Quiet H marks (call H m₀ (Mark n)).next ys → (call H m₁ (Save n₂)).told ≡ sealed →
+    (m₂ : Machine) → m₂ ≡ after H (call H m₁ (Save n₂)).next zs → Quiet H marks (call H m₁ (Save n₂)).next zs →
+    (j : ℕ) → j < 70 + half H → m₂.buf j ≡ image_word H m₀ j

@@ -9,6 +9,7 @@ pub mod Runs
 pub mod Bounds
 pub mod Image
 pub mod Restore
+pub mod Theorems
 pub mod Closed
 pub mod Mutating
 pub mod Promises

@@ -11,12 +11,12 @@ use Rattle.model.specs.declared.states.Phase.TheVariants.{Idle, Collecting}
 use Rattle.model.specs.declared.calls.Call.{Call}
 use Rattle.model.specs.declared.calls.Call.TheVariants.{Flip as Turn, Step}
 use Rattle.model.specs.Outcomes.{Told.ended}
-use Rattle.theory.specs.Steps.{call, n_call}
+use Rattle.theory.specs.Steps.{call, n_call, fresh_m, fresh_a}
 
 -- the states since a FLIP at m₀ and a₀, with the words that the calls said to be copied and scanned
-pub data Since (H : Shape) (m₀ : Machine) (a₀ : Never) : ℕ → ℕ → Machine → Never → Type 0 where
-  flips : refusal (view_m H m₀) Turn ≡ 0 → Since H m₀ a₀ (call H m₀ Turn).copied (call H m₀ Turn).scanned (call H m₀ Turn).next (n_call H a₀ Turn (call H m₀ Turn).told).next
-  goes : {co sc : ℕ} {m : Machine} {a : Never} → Since H m₀ a₀ co sc m a → m.phase ≡ Collecting → (c : Call) → Since H m₀ a₀ (co + (call H m c).copied) (sc + (call H m c).scanned) (call H m c).next (n_call H a c (call H m c).told).next
+pub data SinceFrom (H : Shape) (m₀ : Machine) (a₀ : Never) : ℕ → ℕ → Machine → Never → Type 0 where
+  flips : refusal (view_m H m₀) Turn ≡ 0 → SinceFrom H m₀ a₀ (call H m₀ Turn).copied (call H m₀ Turn).scanned (call H m₀ Turn).next (n_call H a₀ Turn (call H m₀ Turn).told).next
+  goes : {co sc : ℕ} {m : Machine} {a : Never} → SinceFrom H m₀ a₀ co sc m a → m.phase ≡ Collecting → (c : Call) → SinceFrom H m₀ a₀ (co + (call H m c).copied) (sc + (call H m c).scanned) (call H m c).next (n_call H a c (call H m c).told).next
 
 -- the pairing of objects with places
 pub record Paired (H : Shape) (a₀ : Never) (m : Machine) (a : Never) : Type 0 where
@@ -43,6 +43,20 @@ pub record Ends (H : Shape) (a₀ : Never) (co sc : ℕ) (m : Machine) (a : Neve
   pub scanned : sc ≡ a.l
 
 -- a collection from a FLIP at m₀ and a₀
-abbrev pub Collects : Shape → Machine → Never → Type 0
-Collects H m₀ a₀ = (co sc : ℕ) (m : Machine) (a : Never) → Since H m₀ a₀ co sc m a → m.phase ≡ Collecting →
+abbrev pub CollectsFrom : Shape → Machine → Never → Type 0
+CollectsFrom H m₀ a₀ = (co sc : ℕ) (m : Machine) (a : Never) → SinceFrom H m₀ a₀ co sc m a → m.phase ≡ Collecting →
+    (Paired H a₀ m a) × ((call H m Step).told ≡ ended → Ends H a₀ (co + (call H m Step).copied) (sc + (call H m Step).scanned) (call H m Step).next (n_call H a Step ended).next)
+
+-- the states that calls lead to from MAKE, on both sides
+pub data Comes (H : Shape) : Machine → Never → Type 0 where
+  made : (lent : ℕ → ℕ) → Comes H (fresh_m H lent) fresh_a
+  called : {m : Machine} {a : Never} → Comes H m a → (c : Call) → Comes H (call H m c).next (n_call H a c (call H m c).told).next
+
+-- those since a FLIP at a₀, with the words that the calls said to be copied and scanned
+pub data Since (H : Shape) (a₀ : Never) : ℕ → ℕ → Machine → Never → Type 0 where
+  flips : {m : Machine} → Comes H m a₀ → refusal (view_m H m) Turn ≡ 0 → Since H a₀ (call H m Turn).copied (call H m Turn).scanned (call H m Turn).next (n_call H a₀ Turn (call H m Turn).told).next
+  goes : {co sc : ℕ} {m : Machine} {a : Never} → Since H a₀ co sc m a → m.phase ≡ Collecting → (c : Call) → Since H a₀ (co + (call H m c).copied) (sc + (call H m c).scanned) (call H m c).next (n_call H a c (call H m c).told).next
+
+abbrev pub Collects : Shape → Type 0
+Collects H = (a₀ : Never) (co sc : ℕ) (m : Machine) (a : Never) → Since H a₀ co sc m a → m.phase ≡ Collecting →
     (Paired H a₀ m a) × ((call H m Step).told ≡ ended → Ends H a₀ (co + (call H m Step).copied) (sc + (call H m Step).scanned) (call H m Step).next (n_call H a Step ended).next)

@@ -10,7 +10,7 @@ use Rattle.model.specs.declared.states.Phase.TheVariants.{Idle}
 use Rattle.model.specs.declared.calls.Call.{Call}
 use Rattle.model.specs.declared.calls.Call.TheVariants.{Mark, Save}
 use Rattle.model.specs.Outcomes.{Told.sealed}
-use Rattle.theory.specs.Steps.{call}
+use Rattle.theory.specs.Steps.{call, fresh_m}
 use Rattle.theory.specs.Image.{used_at, image_word}
 use Rattle.theory.specs.Runs.{after, Quiet, marks}
 
@@ -110,8 +110,8 @@ pub record SameHeap (H : Shape) (m r : Machine) : Type 0 where
   pub words : (x : ℕ) → m.side * half H ≤ x → x < m.side * half H + half H → used_at m x ≡ true → r.st.mem x ≡ m.st.mem x
 
 -- a sealed image is accepted on every heap of its size and layout, and restores the heap at its MARK
-abbrev pub ImageRestores : Shape → Machine → Type 0
-ImageRestores H start = (xs ys zs : List Call) (n n₂ : ℕ) →
+abbrev pub ImageRestoresFrom : Shape → Machine → Type 0
+ImageRestoresFrom H start = (xs ys zs : List Call) (n n₂ : ℕ) →
     (m₀ : Machine) → m₀ ≡ after H start xs → refusal (view_m H m₀) (Mark n) ≡ 0 →
     (m₁ : Machine) → m₁ ≡ after H (call H m₀ (Mark n)).next ys → Quiet H marks (call H m₀ (Mark n)).next ys → (call H m₁ (Save n₂)).told ≡ sealed →
     (m₂ : Machine) → m₂ ≡ after H (call H m₁ (Save n₂)).next zs → Quiet H marks (call H m₁ (Save n₂)).next zs →
@@ -132,3 +132,11 @@ save_times (suc k) n = Save n ∷ save_times k n
 abbrev pub ImageAgainWhole : Shape → Type 0
 ImageAgainWhole H = (b other : ℕ → ℕ) (k n : ℕ) → closed_restore_refusal H k b ≡ 0 → 70 + half H ≤ n →
     (j : ℕ) → j < 70 + half H → (after H (closed_with_buffer (restored H b) other) (Mark n ∷ save_times H.pages n)).buf j ≡ b j
+
+-- a sealed image is accepted on every heap of its size and layout, and restores the heap at its MARK
+abbrev pub ImageRestores : Shape → Type 0
+ImageRestores H = (lent : ℕ → ℕ) (xs ys zs : List Call) (n n₂ : ℕ) →
+    (m₀ : Machine) → m₀ ≡ after H (fresh_m H lent) xs → refusal (view_m H m₀) (Mark n) ≡ 0 →
+    (m₁ : Machine) → m₁ ≡ after H (call H m₀ (Mark n)).next ys → Quiet H marks (call H m₀ (Mark n)).next ys → (call H m₁ (Save n₂)).told ≡ sealed →
+    (m₂ : Machine) → m₂ ≡ after H (call H m₁ (Save n₂)).next zs → Quiet H marks (call H m₁ (Save n₂)).next zs →
+    (k : ℕ) → 70 + half H ≤ k → (closed_restore_refusal H k m₂.buf ≡ 0) × SameHeap H m₀ (restored H m₂.buf)

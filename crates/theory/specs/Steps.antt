@@ -380,3 +380,17 @@ fresh_a = record { heap = record { many = 0; hdr = λ p. 0; val = λ p i. Nil };
 -- the words of to-space scanned so far
 abbrev pub scanned_all : Shape → Machine → ℕ
 scanned_all H m = sum_to H.pages (λ k. m.scan (m.side * H.pages + k) - (m.side * H.pages + k) * H.page)
+
+-- runs
+abbrev pub run_m : Shape → Machine → List Call → List Outcome
+run_m H m [] = []
+run_m H m (c ∷ cs) = call H m c ∷ run_m H (call H m c).next cs
+
+abbrev pub answers : List Outcome → List Answer
+answers [] = []
+answers (o ∷ os) = o.answer ∷ answers os
+
+abbrev pub run_a : Shape → Never → List Call → List Outcome → List Answer
+run_a H a [] os = []
+run_a H a (c ∷ cs) [] = []
+run_a H a (c ∷ cs) (o ∷ os) = (n_call H a c o.told).answer ∷ run_a H (n_call H a c o.told).next cs os

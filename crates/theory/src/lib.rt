@@ -5,16 +5,60 @@ ghost use Rattle.theory.specs.ImageExample.{ImageIsAccepted, ImageIsAStart, Obje
 ghost use Rattle.theory.specs.RestoreChecks.{AcceptedIfNoneFails, LengthIsOfNoMatter};
 ghost use Rattle.theory.specs.SpoiltImages.{OnePageWouldNotBeSealedInTime, UnsealedWouldNotRestoreItsMoment, OtherPageSizeWouldNotBeWrittenAgain, OtherPagesOfAHalfWouldNotBeWrittenAgain, OtherLayoutWouldNotBeWrittenAgain, Half2WouldNotBeWrittenAgain, TooManyWordsWouldAnswerOtherwise, Kind3WouldNotBeWrittenAgain, NilWithPayloadWouldNotBeWrittenAgain, UnusedWordWouldNotBeWrittenAgain};
 ghost use Rattle.theory.specs.SpoiltImages.{EvenWordAmongTheCopiedWouldNotBeCopied, CutCopiedObjectWouldAnswerOtherwise, EvenWordAmongTheNewWouldNotBeCopied, CutNewObjectWouldAnswerOtherwise, CopiedSlotAstrayWouldAnswerOtherwise, NewSlotAstrayWouldAnswerOtherwise, RegisterAstrayWouldAnswerOtherwise};
-ghost use Rattle.theory.specs.Promises.{HeapsKeepTheirPromises, AllRestoredHeapsWriteTheirImage};
+ghost use Rattle.theory.specs.Mutating.{MutatorsAnswerAsIfNothingMoved};
+ghost use Rattle.theory.specs.Theorems.{RunsAgree, AllCollect, StepsBounded, AllRepeat, AllSealed, AllAgain, AllRestore, AllTrap};
+ghost use Rattle.theory.specs.Promises.{HeapsKeepTheirPromises, HeapsAnswerAsIfNothingMoved, CollectionsCopyTheReached, CallsGoOn, AllImagesAreSealed, AllImagesRestoreTheirMoment, AllRestoredHeapsWriteTheirImage};
 
 /// Heaps keep their promises, over all lists of calls that begin at MAKE or at RESTORE of an image.
 pub fn promises_kept()
     ensures { HeapsKeepTheirPromises }
 {}
 
+/// To the mutators' calls the moving heap answers as if nothing moved.
+pub fn mutators_answered()
+    ensures { MutatorsAnswerAsIfNothingMoved }
+{}
+
+/// To every list of calls the moving heap answers as if nothing moved.
+pub fn calls_answered()
+    ensures { HeapsAnswerAsIfNothingMoved }
+{}
+
+/// A collection copies exactly what FLIP's registers reached.
+pub fn reached_copied()
+    ensures { CollectionsCopyTheReached }
+{}
+
+/// A call whose fault was resolved goes on.
+pub fn resolved_calls_go_on()
+    ensures { CallsGoOn }
+{}
+
+/// An image is sealed no later than at the accepted SAVE with the number of a half's pages.
+pub fn images_sealed()
+    ensures { AllImagesAreSealed }
+{}
+
+/// A sealed image restores the contents of the heap at its MARK.
+pub fn images_restored()
+    ensures { AllImagesRestoreTheirMoment }
+{}
+
 /// A restored heap writes its image again.
 pub fn images_written_again()
     ensures { AllRestoredHeapsWriteTheirImage }
+{}
+
+/// The theorems of the closed form of the definitions, over all lists of calls that begin at MAKE.
+pub fn closed_form_proved()
+    ensures answers { RunsAgree }
+    ensures collections { AllCollect }
+    ensures steps { StepsBounded }
+    ensures repeats { AllRepeat }
+    ensures sealed { AllSealed }
+    ensures again { AllAgain }
+    ensures restored { AllRestore }
+    ensures traps { AllTrap }
 {}
 
 /// The never-moving heap of a small image is computed on the definitions.
