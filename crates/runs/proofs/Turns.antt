@@ -9,7 +9,7 @@ use Rattle.model.specs.Calls.{made, after, answers}
 use Rattle.model.specs.declared.calls.Answer.{Answer}
 use Rattle.heap.specs.Effects.{Does}
 use Rattle.theory.specs.Mutating.{is_mutator_call, OnlyMutatorCalls}
-use Rattle.theory.proofs.Related.{mutators_answer_as_if_nothing_moved}
+use Rattle.theory.proofs.FromMake.{mutators_answer_as_if_nothing_moved}
 use Rattle.runs.specs.Lists.{as_call, as_calls, AsIfNothingMoved}
 use Rattle.runs.specs.declared.lists.MutatorCall.{MutatorCall}
 use Rattle.runs.specs.declared.lists.MutatorCall.TheVariants.{New, Load, Store, Copy, SetNumber, SetNil, Same, Tell, Count}

@@ -1,6 +1,7 @@
 ghost use Rattle.std.specs.Prelude.{◌≡◌};
 ghost use Rattle.heap.specs.View.{view};
-ghost use Rattle.heap.specs.Effects.{Does, access_answer, done_answer, same_answer, tell_answer};
+ghost use Rattle.images.specs.Lent.{done_answer};
+ghost use Rattle.heap.specs.Effects.{Does, access_answer, same_answer, tell_answer};
 ghost use Rattle.runs.specs.Lists.{as_call, Ran};
 
 use heap::{Access, Heap};

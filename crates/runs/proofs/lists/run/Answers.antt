@@ -6,12 +6,12 @@ use Rattle.runs.proofs.Turns.{machine, rest, goal as goal', as_long, at_start, o
 use Rattle.runs.proofs.lists.run.Goals as goal
 
 pub loop-i-init : goal.loop-i-init
-loop-i-init g c = (at_start g.L.Layout.rules c.args.calls.now (view g.H.Host.meaning c.in-ok-heap.heap) c.args.answers.now, refl)
+loop-i-init g c = (at_start g.L.Layout.rules c.args.calls.now (view g.H.Host.meaning c.in_ok-heap.heap) c.args.answers.now, refl)
 
 pub loop-i-preserved : goal.loop-i-preserved
 loop-i-preserved g c =
     let seen = view g.H.Host.meaning in
-    (one_more g.L.Layout.rules c.args.calls.now (seen c.in-ok-heap.heap) c.args.answers.now c.loop-i.i (seen c.loop-i.heap) (seen c.carry_out.new.heap) c.loop-i.answers (New 0 0 0 0) c.carry_out.result (search rules) (search rules) c.carry_out.ensures.does c.loop-i.invariant.0, c.carry_out.ensures.layout ∙ c.loop-i.invariant.1)
+    (one_more g.L.Layout.rules c.args.calls.now (seen c.in_ok-heap.heap) c.args.answers.now c.loop-i.i (seen c.loop-i.heap) (seen c.carry_out.new.heap) c.loop-i.answers (New 0 0 0 0) c.carry_out.result (search rules) (search rules) c.carry_out.ensures.does c.loop-i.invariant.0, c.carry_out.ensures.layout ∙ c.loop-i.invariant.1)
 
 pub returns : goal.returns
 returns g c =
@@ -19,8 +19,8 @@ returns g c =
     let means = g.H.Host.meaning in
     let h = c.args.host in
     let cs = c.args.calls.now in
-    let start = view means c.in-ok-heap.heap in
-    let made = c.in-ok-heap.ensures in
+    let start = view means c.in_ok-heap.heap in
+    let made = c.in_ok-heap.ensures in
     let all : c.loop-i.i ≡ length cs = search rules in
     let so_far = c.loop-i.invariant.0 in
     let here = view means c.loop-i.heap in
