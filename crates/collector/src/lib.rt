@@ -11,3 +11,4 @@ pub use forwarding::{forward, forward_held};
 pub use pages::{Progress, scan_if_unscanned, step_collection};
 pub use root_pass::forward_roots;
 pub use scanning::{packed_word, scan_words};
+pub use state::{FromAddress, Held, Mutator, Space, ToAddress};

@@ -1,24 +1,22 @@
 -- A heap as MAKE leaves it.
-use Rattle.std.proofs.Common.{◌≡◌, ℕ, zero, suc, ◌+◌, ◌*◌, ◌/◌, ◌%◌, ◌<◌, ◌≤◌, Bool, true, false, cond, ltb, List, get_or, replicate, sym, refl, ap, ◌∙◌, inl, inr, arith}
+use Rattle.std.proofs.Common.{◌≡◌, ℕ, zero, suc, ◌+◌, ◌/◌, ◌%◌, ◌≤◌, cond, ltb, get_or, replicate, refl, ap, ◌∙◌, inl, inr, arith}
 use lib.ListN.{length-replicate}
 use Rattle.std.proofs.lemmas.Bool.{cases_lt, cond-true, lt-ltb}
 use Rattle.std.proofs.lemmas.Bool.Decides.{nat_tests}
 use Rattle.std.proofs.lemmas.List.{get_or-replicate, get_or_past}
 use Rattle.memory.proofs.Memories.{same_memory, after_set_inside}
-use Rattle.memory.specs.Memory.{Memory, extent, legal_sizes, with_word, with_right, lowered_run, run_inside, after_set, after_protn, after_unprot}
+use Rattle.memory.specs.Memory.{Memory, extent, with_right, lowered_run, after_set, after_protn, after_unprot}
 use Rattle.memory.specs.Rights.{lesser, greater}
 use Rattle.memory.specs.declared.rights.Right.{Right}
 use Rattle.memory.specs.declared.rights.Right.TheVariants.{None, Read, All}
 use Rattle.layouts.specs.declared.values.Value.{Value}
-use Rattle.layouts.specs.declared.values.Value.TheVariants as Value
 use Rattle.words.specs.Words.{zeroed}
-use Rattle.model.specs.Heap.{half_pages, with_new_start}
+use Rattle.model.specs.Heap.{half_pages}
 use Rattle.model.specs.Collecting.{opened}
-use Rattle.model.specs.Calls.{fresh_memory, fresh_heap}
+use Rattle.model.specs.Calls.{fresh_memory}
 use Rattle.model.specs.declared.states.State.TheVariants.{Running}
 use Rattle.heap.specs.Making.{cleared}
 use Rattle.state.specs.View.{held_value, no_such, register_view, state_view}
-use Rattle.state.specs.declared.mutators.Held.{Held}
 use Rattle.state.specs.declared.mutators.Held.TheVariants.{Nil}
 use Rattle.state.specs.declared.mutators.Mutator.{Mutator}
 

@@ -15,12 +15,11 @@ use Rattle.model.specs.Scanning.{has_unscanned, page_scanned, page_counts}
 use Rattle.model.specs.Images.{image_words, page_saved}
 use Rattle.model.specs.Faults.{runs_again, resolve}
 use Rattle.model.specs.Refusing.{is_in_hand, is_collecting, is_imaging, holds_fault, refuse_if}
-use Rattle.model.specs.Outcomes.{Machine, with_heap, Outcome, outcome, unless}
-use Rattle.model.specs.Calls.{moving_view, call, turned_down}
+use Rattle.model.specs.Outcomes.{Machine, with_heap, outcome, unless}
+use Rattle.model.specs.Calls.{moving_view, turned_down}
 use Rattle.images.specs.Lent.{machine, Writes}
 use Rattle.state.specs.Moves.{next}
 use Rattle.state.specs.declared.mutators.Event.{Event}
-use Rattle.state.specs.declared.mutators.Event.TheVariants as Event
 use Rattle.heap.specs.Effects.{served, counts_served, Serves, resolve_answer}
 use Rattle.heap.specs.Moves.{moves, to_state, advanced}
 

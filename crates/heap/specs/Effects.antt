@@ -1,9 +1,7 @@
 -- What a call's contract says of its answer and of what it leaves.
-use Rattle.std.specs.Prelude.{◌≡◌, ℕ, suc, ◌^◌, ◌<◌, Bool, false, List, length, Ok, Err, Option, Result}
+use Rattle.std.specs.Prelude.{◌≡◌, ℕ, suc, ◌^◌, ◌<◌, Bool, List, length, Ok, Err, Option, Result}
 use Rattle.memory.specs.declared.refusals.Refusal.{Refusal}
 use Rattle.layouts.specs.Layouts.{Rules}
-use Rattle.layouts.specs.declared.values.Value.{Value}
-use Rattle.std.specs.declared.option.Option.TheVariants as Option
 use Rattle.model.specs.Heap.{Heap as Model}
 use Rattle.model.specs.Outcomes.{Machine, with_heap, outcome}
 use Rattle.model.specs.Calls.{moving_view, call}
@@ -11,7 +9,6 @@ use Rattle.model.specs.Mutators.{held, header_in}
 use Rattle.model.specs.Objects.{referred}
 use Rattle.model.specs.Refusing.{unless_running, unless_slot}
 use Rattle.model.specs.declared.calls.Answer.{Answer}
-use Rattle.model.specs.declared.calls.Answer.TheVariants as Answer
 use Rattle.model.specs.declared.calls.Call.{Call}
 use Rattle.model.specs.declared.states.Phase.{Phase}
 use Rattle.model.specs.declared.states.Phase.TheVariants.{Idle, Collecting, Imaging}

@@ -1,7 +1,9 @@
-ghost use Rattle.std.specs.Prelude.{◌≡◌, ℕ, ◌+◌, ◌<◌, ◌≤◌, Ok, Err};
+ghost use Rattle.std.specs.Prelude.{◌≡◌, ℕ, ◌+◌, ◌-◌, ◌<◌, ◌≤◌, Ok, Err};
 ghost use Rattle.memory.specs.Memory.{after_put};
 ghost use Rattle.memory.specs.declared.refusals.Refusal.TheVariants.{Shape};
-ghost use Rattle.model.specs.Heap.{with_memory, with_new_start};
+ghost use Rattle.model.specs.Heap.{to_start, with_memory, with_new_start};
+ghost use Rattle.model.specs.Scanning.{lowest};
+ghost use Rattle.state.specs.View.{unsaved_view};
 ghost use Rattle.model.specs.Objects.{initial};
 ghost use Rattle.model.specs.Mutators.{slots_put, has_room, unsaved_in};
 ghost use Rattle.model.specs.declared.calls.Call.TheVariants as Call;
@@ -10,7 +12,6 @@ ghost use Rattle.heap.specs.Effects.{Does, access_answer};
 
 use super::heap_state::{Access, Heap};
 use collector::packed_word;
-use images::lowest_unsaved;
 use layouts::{Layout, Value};
 use memory::{Host, Refusal};
 use model::Phase;
@@ -54,13 +55,29 @@ fn put_object<H: Host, L: Layout>(
     }
 }
 
+// The lowest unsaved page from one page on up to another.
+fn lowest_unsaved(unsaved: &[bool; 64], first: u32, stop: u32) -> Option<u32>
+    requires { stop ≤ 64 }
+    ensures { result ≡ lowest (stop - first) first (unsaved_view unsaved.now) }
+{
+    images::lowest_unsaved(unsaved, first, stop)
+}
+
 impl<H: Host, L: Layout> Heap<H, L> {
+    // The first word of to-space.
+    fn to_start(&self) -> u32
+        ensures value { result ≡ to_start (view H.Host.meaning self.now) }
+        ensures few { result ≤ 8192 }
+    {
+        start_of_half(&self.host, self.plain.half)
+    }
+
     // Whether so many words find space below the new objects.
     fn has_room(&self, words: u32) -> bool
         ensures { result ≡ has_room (view H.Host.meaning self.now) words }
     {
         let limit = match self.plain.phase {
-            Phase::Collecting => start_of_half(&self.host, self.plain.half)
+            Phase::Collecting => self.to_start()
                 + pages_for(&self.host, self.plain.flip_used) * page_words(&self.host),
             Phase::Idle | Phase::Imaging => self.plain.space.copy_end,
         };
@@ -76,7 +93,11 @@ impl<H: Host, L: Layout> Heap<H, L> {
         };
         let size = page_words(&self.host);
         let last = at.saturating_add(words.saturating_sub(1)) / size;
-        lowest_unsaved(&self.plain.unsaved, at / size, last.saturating_add(1))
+        lowest_unsaved(
+            &self.plain.unsaved,
+            at / size,
+            last.saturating_add(1).min(64),
+        )
     }
 
     // Writes a new object below the others.

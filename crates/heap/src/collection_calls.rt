@@ -16,7 +16,10 @@ impl<H: Host, L: Layout> Heap<H, L> {
     fn all_running(&self) -> bool
         ensures { result ≡ all_running (moving_view L.Layout.rules (view H.Host.meaning self.now)) }
     {
-        self.plain.is_running(0) && self.plain.is_running(1) && self.plain.is_running(2) && self.plain.is_running(3)
+        self.plain.is_running(0)
+            && self.plain.is_running(1)
+            && self.plain.is_running(2)
+            && self.plain.is_running(3)
     }
 
     /// FLIP: begins a collection, and answers the words copied.

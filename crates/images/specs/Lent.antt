@@ -9,7 +9,6 @@ use Rattle.model.specs.Outcomes.{Machine, outcome}
 use Rattle.model.specs.Images.{image_words, page_saved}
 use Rattle.model.specs.Calls.{call}
 use Rattle.model.specs.declared.calls.Answer.{Answer}
-use Rattle.model.specs.declared.calls.Answer.TheVariants as Answer
 use Rattle.model.specs.declared.calls.Call.{Call}
 use Rattle.state.specs.View.{state_of}
 use Rattle.state.specs.declared.plain_state.Plain.{Plain}

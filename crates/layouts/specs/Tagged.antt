@@ -3,7 +3,6 @@ use Rattle.std.specs.Prelude.{ℕ, ◌+◌, ◌-◌, ◌*◌, ◌/◌, ◌%◌, 
 use Rattle.layouts.specs.Layouts.{Rules}
 use Rattle.layouts.specs.declared.values.Value.{Value}
 use Rattle.layouts.specs.declared.values.Value.TheVariants.{Nil, Number, Reference}
-use Rattle.std.specs.declared.option.Option.TheVariants as Option
 
 abbrev pub tagged_slots : ℕ → Option ℕ
 tagged_slots x = cond (x % 2 == 1 && nat_le (x / 2) 255) (Option.Some (x / 2)) Option.None

@@ -1,9 +1,9 @@
 -- The tagged layout has the laws.
 use Rattle.std.specs.Prelude.{◌≡◌, ℕ, ◌+◌, ◌-◌, ◌*◌, ◌/◌, ◌%◌, ◌^◌, ◌<◌, ◌≤◌, true, Some, refl}
-use Rattle.std.proofs.Common.{ap, arith, rules}
+use Rattle.std.proofs.Common.{arith}
 use Rattle.std.proofs.lemmas.Bool.Decides.{nat_tests}
 use Rattle.std.proofs.lemmas.Bool.{lt-ltb}
-use Rattle.layouts.specs.Layouts.{Rules, Lawful, addressable}
+use Rattle.layouts.specs.Layouts.{Lawful, addressable}
 use Rattle.layouts.specs.Tagged.{tagged, tagged_slots, tagged_admits, tagged_packed, tagged_unpacked}
 use Rattle.layouts.specs.declared.values.Value.{Value}
 use Rattle.layouts.specs.declared.values.Value.TheVariants.{Nil, Number, Reference}

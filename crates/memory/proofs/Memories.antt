@@ -1,10 +1,10 @@
 -- Equal memories, and what a call makes of one where it is allowed.
-use Rattle.std.proofs.Common.{◌≡◌, ℕ, ◌+◌, ◌-◌, ◌<◌, ◌≤◌, true, cond, ltb, Ok, Err, refl, ap, ◌∙◌, ap₂, arith}
+use Rattle.std.proofs.Common.{◌≡◌, ℕ, ◌+◌, ◌-◌, ◌<◌, ◌≤◌, true, Ok, Err, refl, ap, ◌∙◌, arith}
 use Rattle.std.proofs.lemmas.Bool.{cond-true, lt-ltb}
 use Rattle.std.proofs.lemmas.Bool.Decides.{nat_tests}
 use Rattle.std.proofs.lemmas.Nat.{mul-le}
-use Rattle.memory.specs.Memory.{Memory, legal_sizes, extent, page_of, inside, look_answer, put_answer, see_answer, set_answer, with_word, with_right, lowered_run, after_put, after_set, after_prot1, after_unprot}
-use Rattle.memory.specs.Rights.{lesser, greater, may_read, may_write}
+use Rattle.memory.specs.Memory.{Memory, legal_sizes, extent, page_of, inside, look_answer, put_answer, see_answer, set_answer, with_word, with_right, lowered_run, after_put, after_set, after_prot1}
+use Rattle.memory.specs.Rights.{lesser, may_read, may_write}
 use Rattle.memory.specs.declared.hosts.Denied.{Denied}
 use Rattle.memory.specs.declared.rights.Right.{Right}
 

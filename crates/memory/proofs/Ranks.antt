@@ -1,5 +1,5 @@
 -- Rights as numbers, so that arithmetic decides which is least.
-use Rattle.std.proofs.Common.{◌≡◌, ℕ, ◌≤◌, min, max, refl, arith}
+use Rattle.std.proofs.Common.{◌≡◌, ◌≤◌, min, max, refl, arith}
 use Rattle.memory.specs.Rights.{lesser, greater, rank}
 use Rattle.memory.specs.declared.rights.Right.{Right}
 use Rattle.memory.specs.declared.rights.Right.TheVariants.{None, Read, All}

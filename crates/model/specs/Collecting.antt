@@ -1,5 +1,5 @@
 -- What FLIP and STEP do, where they are not refused.
-use Rattle.std.specs.Prelude.{ℕ, zero, suc, ◌+◌, ◌-◌, ◌*◌, Bool, true, false, cond, Some, None, Option, nat_lt}
+use Rattle.std.specs.Prelude.{ℕ, zero, suc, ◌+◌, ◌-◌, ◌*◌, true, false, cond, Some, None, Option, nat_lt}
 use Rattle.memory.specs.Memory.{Memory, after_protn, after_unprot}
 use Rattle.memory.specs.declared.rights.Right.TheVariants as Right
 use Rattle.layouts.specs.Layouts.{Rules}

@@ -1,15 +1,14 @@
 -- The second promise: what a collection does, from its FLIP to the STEP that ends it.
-use Rattle.std.specs.Prelude.{◌≡◌, ℕ, suc, ◌+◌, ◌-◌, ◌/◌, ◌<◌, ◌≤◌, max, Bool, true, ◌≢◌, ◌⊎◌, List, [], ◌∷◌, length}
+use Rattle.std.specs.Prelude.{◌≡◌, ℕ, suc, ◌+◌, ◌-◌, ◌/◌, ◌<◌, ◌≤◌, max, Bool, true, ◌≢◌, ◌⊎◌, List, length}
 use Rattle.layouts.specs.Layouts.{Rules}
 use Rattle.layouts.specs.declared.values.Value.{Value}
 use Rattle.layouts.specs.declared.values.Value.TheVariants.{Nil, Number, Reference}
 use Rattle.model.specs.declared.calls.Answer.{Answer}
 use Rattle.model.specs.declared.calls.Answer.TheVariants.{Refused, Trapped, Done, Same, Kind, Count, Fault, Copied, Scanned, Stepped, Saved}
 use Rattle.model.specs.declared.calls.Call.{Call}
-use Rattle.model.specs.declared.calls.Call.TheVariants as Call
 use Rattle.model.specs.declared.states.Phase.TheVariants.{Collecting}
 use Rattle.model.specs.Heap.{Heap, to_start, to_stop}
-use Rattle.model.specs.Outcomes.{Machine, told, Told.ended}
+use Rattle.model.specs.Outcomes.{told, Told.ended}
 use Rattle.model.specs.Calls.{call}
 use Rattle.model.specs.Never.{Never, Sizes}
 use Rattle.model.specs.Reaching.{object_at, slot_at, words_of, Reached}

@@ -7,9 +7,7 @@ use Rattle.layouts.specs.Split.{split}
 use Rattle.layouts.specs.Tagged.{tagged}
 use Rattle.layouts.specs.declared.values.Value.TheVariants.{Number, Reference}
 use Rattle.model.specs.declared.calls.Answer.{Answer}
-use Rattle.model.specs.declared.calls.Answer.TheVariants as Answer
 use Rattle.model.specs.declared.calls.Call.{Call}
-use Rattle.model.specs.declared.calls.Call.TheVariants as Call
 use Rattle.model.specs.Outcomes.{Machine}
 use Rattle.model.specs.Calls.{made, after, answers}
 

@@ -5,7 +5,7 @@ use Rattle.memory.specs.declared.rights.Right.TheVariants as Right
 use Rattle.layouts.specs.Layouts.{Rules}
 use Rattle.layouts.specs.declared.values.Value.{Value}
 use Rattle.layouts.specs.declared.values.Value.TheVariants.{Nil, Number, Reference}
-use Rattle.model.specs.Heap.{Space, Moving, plus}
+use Rattle.model.specs.Heap.{Moving, plus}
 use Rattle.model.specs.Objects.{object_words}
 
 -- n words from old on, copied one by one to new on, by the second view

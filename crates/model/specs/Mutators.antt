@@ -1,8 +1,7 @@
 -- What the mutators' calls do, where they are not refused.
-use Rattle.std.specs.Prelude.{ℕ, zero, suc, ◌+◌, ◌-◌, ◌*◌, ◌/◌, min, Bool, cond, Some, None, Ok, Err, Option, Result, nat_le}
+use Rattle.std.specs.Prelude.{ℕ, zero, suc, ◌+◌, ◌-◌, ◌*◌, ◌/◌, min, Bool, Some, None, Ok, Err, Option, Result, nat_le}
 use Rattle.memory.specs.Memory.{Memory, look_answer, put_answer, after_put}
 use Rattle.memory.specs.declared.hosts.Denied.{Denied}
-use Rattle.memory.specs.declared.hosts.Denied.TheVariants as Denied
 use Rattle.layouts.specs.Layouts.{Rules}
 use Rattle.layouts.specs.declared.values.Value.{Value}
 use Rattle.layouts.specs.declared.values.Value.TheVariants.{Nil, Number, Reference}

@@ -4,7 +4,6 @@ use Rattle.layouts.specs.Layouts.{Rules, addressable}
 use Rattle.layouts.specs.declared.values.Value.{Value}
 use Rattle.layouts.specs.declared.values.Value.TheVariants.{Nil, Number, Reference}
 use Rattle.model.specs.declared.calls.Kind.{Kind}
-use Rattle.model.specs.declared.calls.Kind.TheVariants as Kind
 
 abbrev pub some_or_0 : Option ℕ → ℕ
 some_or_0 None = 0

@@ -1,7 +1,6 @@
 -- What a call leaves and answers.
 use Rattle.std.specs.Prelude.{ℕ, Bool, true, false, Option}
 use Rattle.memory.specs.declared.refusals.Refusal.{Refusal}
-use Rattle.std.specs.declared.option.Option.TheVariants as Option
 use Rattle.model.specs.declared.calls.Answer.{Answer}
 use Rattle.model.specs.declared.calls.Answer.TheVariants.{Refused, Trapped, Done, Same, Kind, Count, Fault, Copied, Scanned, Stepped, Saved}
 use Rattle.model.specs.declared.states.State.TheVariants.{Waiting}

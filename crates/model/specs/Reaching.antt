@@ -1,5 +1,5 @@
 -- Objects that never move, and what the registers reach among them.
-use Rattle.std.specs.Prelude.{◌≡◌, ℕ, zero, suc, ◌+◌, ◌<◌, Bool, true, false, cond, ◌&&◌, ◌||◌, List, [], length, ◌==◌, slice_index_or}
+use Rattle.std.specs.Prelude.{◌≡◌, ℕ, zero, suc, ◌+◌, ◌<◌, Bool, false, cond, ◌&&◌, ◌||◌, List, [], length, ◌==◌, slice_index_or}
 use Rattle.layouts.specs.declared.values.Value.{Value}
 use Rattle.layouts.specs.declared.values.Value.TheVariants.{Nil, Number, Reference}
 

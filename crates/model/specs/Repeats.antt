@@ -1,5 +1,5 @@
 -- The third promise: a call whose fault was resolved goes on.
-use Rattle.std.specs.Prelude.{◌≡◌, ℕ, Bool, ◌||◌, ◌≢◌, List, [], ◌∷◌}
+use Rattle.std.specs.Prelude.{◌≡◌, ℕ, ◌||◌, ◌≢◌, List}
 use Rattle.layouts.specs.Layouts.{Rules}
 use Rattle.model.specs.declared.calls.Answer.TheVariants.{Trapped}
 use Rattle.model.specs.declared.calls.Call.{Call}

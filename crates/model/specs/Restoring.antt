@@ -1,5 +1,5 @@
 -- RESTORE: when an image is refused, and the heap that it makes of one on a host.
-use Rattle.std.specs.Prelude.{ℕ, zero, suc, ◌+◌, ◌-◌, ◌*◌, ◌/◌, ◌%◌, Bool, true, false, cond, not, ◌&&◌, ◌||◌, Option, ◌==◌, nat_le, nat_lt}
+use Rattle.std.specs.Prelude.{ℕ, zero, suc, ◌+◌, ◌-◌, ◌*◌, ◌%◌, Bool, true, false, cond, not, ◌&&◌, ◌||◌, Option, ◌==◌, nat_le, nat_lt}
 use Rattle.memory.specs.Memory.{Memory}
 use Rattle.memory.specs.declared.refusals.Refusal.{Refusal}
 use Rattle.memory.specs.declared.refusals.Refusal.TheVariants.{Size, Short, OtherImage, BadImage}
@@ -7,7 +7,6 @@ use Rattle.memory.specs.declared.rights.Right.TheVariants as Right
 use Rattle.layouts.specs.Layouts.{Rules}
 use Rattle.layouts.specs.declared.values.Value.{Value}
 use Rattle.layouts.specs.declared.values.Value.TheVariants.{Nil, Number, Reference}
-use Rattle.std.specs.declared.option.Option.TheVariants as Option
 use Rattle.model.specs.declared.states.Half.{Half}
 use Rattle.model.specs.declared.states.Half.TheVariants.{Lower, Upper}
 use Rattle.model.specs.declared.states.Phase.TheVariants.{Idle}

@@ -4,7 +4,6 @@ use lib.ListN.{length-replicate}
 use Rattle.std.proofs.lemmas.List.{get_or_past, get_or-set_same, get_or-set_other, get_or-replicate}
 use Rattle.std.proofs.lemmas.Bool.{cases_eq, cases_lt, cond-false, le-ltb}
 use Rattle.layouts.specs.declared.values.Value.{Value}
-use Rattle.layouts.specs.declared.values.Value.TheVariants as Value
 use Rattle.model.specs.declared.states.State.TheVariants.{Running}
 use Rattle.state.specs.View.{held_value, no_such, register_view, state_view}
 use Rattle.state.specs.declared.mutators.Held.{Held}

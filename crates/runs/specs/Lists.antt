@@ -6,11 +6,10 @@ use Rattle.memory.specs.declared.refusals.Rejected.{Rejected}
 use Rattle.layouts.specs.Layouts.{Rules}
 use Rattle.model.specs.declared.calls.Answer.{Answer}
 use Rattle.model.specs.declared.calls.Call.{Call}
-use Rattle.model.specs.declared.calls.Call.TheVariants as Call
 use Rattle.model.specs.Outcomes.{Machine}
 use Rattle.model.specs.Calls.{made, after, answers}
 use Rattle.model.specs.Heap.{half_pages}
-use Rattle.model.specs.Never.{Sizes, never_made, never_answers}
+use Rattle.model.specs.Never.{never_made, never_answers}
 use Rattle.model.specs.Runs.{tellings, without_all_counts}
 use Rattle.runs.specs.declared.lists.MutatorCall.{MutatorCall}
 use Rattle.runs.specs.declared.lists.MutatorCall.TheVariants.{New, Load, Store, Copy, SetNumber, SetNil, Same, Tell, Count}

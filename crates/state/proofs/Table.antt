@@ -1,11 +1,10 @@
 -- What the table of mutators is seen to hold once one of them is changed.
-use Rattle.std.proofs.Common.{◌≡◌, ℕ, ◌+◌, ◌*◌, ◌/◌, ◌%◌, ◌<◌, ◌≤◌, Bool, cond, eqb, ◌≢◌, List, length, get_or, set, sym, refl, ap, ◌∙◌, inl, inr, arith}
+use Rattle.std.proofs.Common.{◌≡◌, ℕ, ◌+◌, ◌*◌, ◌/◌, ◌%◌, ◌<◌, cond, ◌≢◌, List, length, get_or, set, sym, ap, ◌∙◌, inl, inr, arith}
 use Rattle.std.proofs.lemmas.Bool.{cases_eq, eq-eqb, ne_eqb}
-use Rattle.std.proofs.lemmas.Bool.Decides.{nat_tests}
 use Rattle.std.proofs.lemmas.List.{get_or-set_same, get_or-set_other}
 use Rattle.memory.specs.Memory.{Memory, changed}
 use Rattle.layouts.specs.declared.values.Value.{Value}
-use Rattle.model.specs.Heap.{Heap as Model, with_registers, with_states}
+use Rattle.model.specs.Heap.{with_registers, with_states}
 use Rattle.model.specs.declared.states.State.{State}
 use Rattle.state.specs.View.{held_value, held_by, no_such, register_view, state_view}
 use Rattle.state.specs.View.{state_of}

@@ -1,18 +1,14 @@
 -- The heap's state as the definitions of the model have it.
-use Rattle.std.specs.Prelude.{◌≡◌, ℕ, ◌/◌, ◌%◌, Bool, false, Option, List, [], get_or, slice_index, slice_index_or}
+use Rattle.std.specs.Prelude.{ℕ, ◌/◌, ◌%◌, Bool, false, List, [], get_or, slice_index, slice_index_or}
 use Rattle.memory.specs.Memory.{Memory}
 use Rattle.layouts.specs.declared.values.Value.{Value}
-use Rattle.layouts.specs.declared.values.Value.TheVariants as Value
 use Rattle.model.specs.Heap.{Heap as Model, Space as Copies, Moving}
 use Rattle.model.specs.Forwarding.{Roots}
-use Rattle.model.specs.Objects.{is_reference}
-use Rattle.std.specs.declared.option.Option.TheVariants as Option
 use Rattle.model.specs.declared.states.State.{State}
 use Rattle.model.specs.declared.states.State.TheVariants.{Running}
 use Rattle.state.specs.declared.mutators.Held.{Held}
 use Rattle.state.specs.declared.mutators.Held.TheVariants.{Nil, Number, Reference}
 use Rattle.state.specs.declared.mutators.Mutator.{Mutator}
-use Rattle.state.specs.declared.mutators.ToAddress.{ToAddress}
 use Rattle.state.specs.declared.plain_state.Plain.{Plain}
 use Rattle.state.specs.declared.plain_state.Space.{Space}
 
@@ -66,7 +62,7 @@ state_of m p = record {
   space = space_view p.space;
   half = p.half;
   new_start = p.new_start;
-  unscanned = unscanned_view p.unscanned;
+  unscanned = λ q. slice_index p.unscanned q;
   flip_used = p.flip_used;
   unsaved = unsaved_view p.unsaved;
   mark_start = p.mark_start;
@@ -75,8 +71,3 @@ state_of m p = record {
   phase = p.phase;
   traps = p.traps;
 }
-
--- the address that a value refers to, if it does
-abbrev pub Refers : Value → Option ToAddress → Type 0
-Refers v (Option.Some a) = v ≡ Value.Reference a.0
-Refers v Option.None = is_reference v ≡ false

@@ -2,7 +2,8 @@ ghost use Rattle.std.specs.Prelude.{◌≡◌, ℕ, ◌<◌};
 ghost use Rattle.memory.specs.Memory.{Memory};
 ghost use Rattle.model.specs.Heap.{register_number, with_register, with_state};
 ghost use Rattle.model.specs.Refusing.{is_running};
-ghost use Rattle.state.specs.View.{held_value, register_view, state_view, state_of, Refers};
+ghost use Rattle.state.specs.View.{held_value, register_view, state_view, state_of};
+ghost use Rattle.state.specs.References.{Refers};
 
 use super::mutators::{Held, ToAddress};
 use super::plain_state::Plain;

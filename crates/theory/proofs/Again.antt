@@ -1,24 +1,19 @@
 -- The image of a restored heap is the words that it was restored from.
-use Rattle.std.proofs.Common.{◌≡◌, ℕ, zero, suc, ◌+◌, ◌-◌, ◌*◌, ◌/◌, ◌%◌, ◌<◌, ◌≤◌, Bool, true, false, cond, not, ◌&&◌, ◌||◌, eqb, ltb, leb, ◌≢◌, ◌⊎◌, List, [], ◌∷◌, sym, refl, ap, ◌∙◌, subst, ap₂, inl, inr, add-zero, arith}
-use Rattle.std.proofs.lemmas.Bool.{cases_eq, cases_lt, cases_Bool, both_ways, eq-eqb, ne_eqb, eqb-true, lt-ltb, le-ltb, leb-true, le-leb, lt-leb, ltb-false, leb-false, and_parts, and_from, or_cases, or_parts, or_from, not-true, not-false, cond-true, cond-false}
-use Rattle.theory.specs.Model.{Layout, upd}
-use Rattle.layouts.specs.declared.values.Value.{Value}
-use Rattle.layouts.specs.declared.values.Value.TheVariants.{Nil, Number, Reference}
-use Rattle.theory.specs.Collect.{Laws, St}
+use Rattle.std.proofs.Common.{◌≡◌, ℕ, zero, suc, ◌+◌, ◌-◌, ◌*◌, ◌/◌, ◌%◌, ◌<◌, ◌≤◌, Bool, true, false, cond, not, ◌&&◌, ◌||◌, eqb, ltb, leb, ◌≢◌, ◌⊎◌, [], sym, refl, ap, ◌∙◌, subst, inl, inr, add-zero, arith}
+use Rattle.std.proofs.lemmas.Bool.{cases_eq, cases_lt, cases_Bool, both_ways, eq-eqb, ne_eqb, eqb-true, lt-ltb, le-ltb, leb-true, lt-leb, ltb-false, leb-false, and_parts, and_from, or_parts, or_from, not-false, cond-true, cond-false}
+use Rattle.theory.specs.Collect.{Laws}
 use Rattle.theory.specs.Machine.{Shape, half, Machine, view_m, refusal}
 use Rattle.model.specs.declared.states.Phase.{Phase}
 use Rattle.model.specs.declared.states.Phase.TheVariants.{Idle, Collecting, Imaging}
-use Rattle.model.specs.declared.calls.Call.{Call}
 use Rattle.model.specs.declared.calls.Call.TheVariants.{Mark, Save}
-use Rattle.model.specs.Outcomes.{Told.sealed}
 use Rattle.theory.specs.Buffer.{closed_head_word, closed_kind_word, payload, word_for}
 use Rattle.theory.specs.Steps.{call}
 use Rattle.theory.specs.Image.{used_at, image_word, saves, Saving, Saving.begun, Saving.goes}
 use Rattle.theory.specs.Restore.{every, restored, closed_well_made, closed_well_written, reg_well, word_well, closed_restore_refusal, reg_from, closed_with_buffer, save_times, ImageAgain, ImageAgainWhole}
 use Rattle.theory.specs.Runs.{after, Quiet, marks}
-use Rattle.theory.proofs.BodyNew.{in_range, out_range}
+use Rattle.theory.proofs.BodyNew.{in_range}
 use Rattle.theory.proofs.Refusals.{cond_zero}
-use Rattle.theory.proofs.Kept.{Imaged, image_head, imaged_call, imaged_after, rests_call}
+use Rattle.theory.proofs.Kept.{image_head, imaged_after, rests_call}
 use Rattle.theory.proofs.Drains.{idle≢imaging, imaging≢}
 use Rattle.theory.proofs.Sealed.{marked, sealed_from, held, seal_bound}
 

@@ -1,14 +1,11 @@
 -- Which calls answer as STEP does, and which as SAVE does.
 use Rattle.std.proofs.Common.{◌≡◌, ℕ, suc, ◌+◌, Bool, true, false, cond, not, eqb, ◌≢◌, ◌⊎◌, Ok, Err, Option, Result, sym, refl, ap, ◌∙◌, subst, inl, inr, arith}
-use Rattle.std.specs.declared.option.Option.TheVariants as Option
 use Rattle.memory.specs.Memory.{look_answer, put_answer}
 use Rattle.memory.specs.declared.hosts.Denied.{Denied}
-use Rattle.memory.specs.declared.hosts.Denied.TheVariants as Denied
 use Rattle.memory.specs.declared.refusals.Refusal.{Refusal}
 use Rattle.memory.specs.declared.refusals.Refusal.TheVariants.{Nothing}
 use Rattle.layouts.specs.Layouts.{Rules}
 use Rattle.model.specs.declared.calls.Answer.{Answer}
-use Rattle.model.specs.declared.calls.Answer.TheVariants as Answer
 use Rattle.model.specs.declared.calls.Call.{Call}
 use Rattle.model.specs.declared.calls.Call.TheVariants.{New, Load, Store, Copy, SetNumber, SetNil, Same, Tell, Count, Flip, Step, Take, Resolve, Mark, Save}
 use Rattle.model.specs.declared.states.Phase.TheVariants.{Collecting}

@@ -1,9 +1,9 @@
-use Rattle.std.proofs.Common.{◌≡◌, ℕ, zero, suc, ◌+◌, ◌-◌, ◌*◌, ◌/◌, ◌%◌, ◌<◌, ◌≤◌, min, max, Bool, true, false, cond, eqb, ltb, leb, ◌≢◌, ◌⊎◌, sym, refl, ap, ◌∙◌, inl, inr, le_trans, mul-le-mul_right, mul_assoc, div-lt_iff_lt-mul, lt_of_mul-lt-mul_right, le-div_iff_mul-le, div-mul-le_self, le_of_mul-le-mul_right, arith}
+use Rattle.std.proofs.Common.{◌≡◌, ℕ, zero, suc, ◌+◌, ◌-◌, ◌*◌, ◌/◌, ◌<◌, ◌≤◌, min, max, Bool, true, false, cond, ◌≢◌, ◌⊎◌, sym, refl, ap, ◌∙◌, inl, inr, le_trans, mul-le-mul_right, div-lt_iff_lt-mul, le-div_iff_mul-le, div-mul-le_self, arith}
 use native.Mathlib.Nat.{div-zero, div-eq_of_lt-le, lt-div-mul-add}
-use Rattle.std.proofs.lemmas.Bool.{eq-eqb, ne_eqb, cases_eq, cases_lt, cases_Bool, both_ways}
+use Rattle.std.proofs.lemmas.Bool.{eq-eqb, ne_eqb, cases_eq, cases_lt}
 use Rattle.std.proofs.lemmas.Bool.Decides.{nat_tests}
-use Rattle.theory.specs.Machine.{whole, Found, Found.none, Found.found, lowest}
-use Rattle.theory.specs.Model.{map_v, upd, blit, sum_to, weight}
+use Rattle.theory.specs.Machine.{whole, Found.none, Found.found, lowest}
+use Rattle.theory.specs.Model.{upd, blit, sum_to, weight}
 use Rattle.layouts.specs.declared.values.Value.{Value}
 use Rattle.layouts.specs.declared.values.Value.TheVariants.{Nil, Number, Reference}
 

@@ -1,27 +1,19 @@
 -- What each call leaves of the pairing.
-use Rattle.std.proofs.Common.{◌≡◌, ℕ, zero, suc, ◌+◌, ◌-◌, ◌*◌, ◌/◌, ◌%◌, ◌<◌, ◌≤◌, min, max, Bool, true, false, cond, not, ◌&&◌, ◌||◌, eqb, ltb, leb, ◌≢◌, ◌⊎◌, sym, refl, ap, ◌∙◌, subst, inl, inr, le_refl, add-zero, arith}
+use Rattle.std.proofs.Common.{◌≡◌, ℕ, suc, ◌+◌, ◌/◌, ◌<◌, true, ◌≢◌, sym, refl, ap, ◌∙◌, inl, inr, arith}
 use mathlib.Core.Path.{fun_ext}
-use Rattle.std.proofs.lemmas.Bool.{cases_eq, cases_lt, cases_Bool, both_ways, eq-eqb, ne_eqb, lt-ltb, le-ltb, ltb-true, ltb-false}
-use Rattle.std.proofs.lemmas.Bool.Decides.{nat_tests}
-use Rattle.theory.specs.Model.{map_v, Layout, upd, blit, sum_to, weight}
+use Rattle.std.proofs.lemmas.Bool.{cases_eq, cases_lt, eq-eqb, ne_eqb}
+use Rattle.theory.specs.Model.{map_v, Layout, upd}
 use Rattle.layouts.specs.declared.values.Value.{Value}
-use Rattle.layouts.specs.declared.values.Value.TheVariants.{Nil, Number, Reference}
-use Rattle.theory.specs.Collect.{Laws, Heap, Flip, size, Reached, Clear, FlipOk, St, Pair, Alive, LooseInv, LooseSide, Grows, Writes, Sets, Adds, Places, forward_regs}
-use Rattle.theory.specs.Reach.{closed_reached_words}
-use Rattle.theory.specs.Machine.{Shape, half, whole, Machine, Never, closed_is_idle, refs, head_of, ran_page, grant}
-use Rattle.model.specs.declared.states.State.{State}
+use Rattle.theory.specs.Collect.{Laws, Heap, Flip, St, Pair, Alive, LooseInv, Sets}
+use Rattle.theory.specs.Machine.{Shape}
 use Rattle.model.specs.declared.states.Phase.{Phase}
 use Rattle.model.specs.declared.states.Phase.TheVariants.{Idle, Collecting, Imaging}
-use Rattle.theory.specs.Steps.{addr_of, initial, place, write, append, assign}
-use Rattle.theory.proofs.Basics.{upd_same, upd_other, upd_at, or_le, page_lo, page_hi, page_of}
-use Rattle.theory.proofs.Forward.{grows_refl, grows_trans}
-use Rattle.theory.proofs.Flip.{AllDone}
+use Rattle.theory.specs.Steps.{write, assign}
+use Rattle.theory.proofs.Basics.{upd_other, upd_at}
 use Rattle.theory.proofs.Write.{marked}
 use Rattle.theory.proofs.Scan.{writes_upd}
-use Rattle.theory.proofs.New.{Plain, placed, new_keeps, new_grows, span, span_out, span_in}
 use Rattle.theory.proofs.Calls.{load_agrees, store_keeps}
-use Rattle.theory.proofs.Roots.{follows}
-use Rattle.theory.proofs.World.{Whole, Scans, Busy, Rest, Phased, Body}
+use Rattle.theory.proofs.World.{Rest, Phased, Body}
 
 pub marked_same : (g : Pair) (a : ℕ) → g.done a ≡ true → marked g a ≡ g
 marked_same g a d = ap (λ f. record { live = g.live; to = g.to; done = f; limit = g.limit }) same

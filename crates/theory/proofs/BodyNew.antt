@@ -1,21 +1,20 @@
 -- What NEW leaves of the pairing.
-use Rattle.std.proofs.Common.{◌≡◌, ℕ, zero, suc, ◌+◌, ◌-◌, ◌*◌, ◌/◌, ◌%◌, ◌<◌, ◌≤◌, min, max, Bool, true, false, cond, not, ◌&&◌, ◌||◌, eqb, ltb, leb, ◌≢◌, ◌⊎◌, sym, refl, ap, ◌∙◌, subst, inl, inr, le_refl, add-zero, arith}
-use mathlib.Core.Path.{fun_ext}
-use Rattle.std.proofs.lemmas.Bool.{cases_eq, cases_lt, cases_Bool, both_ways, eq-eqb, ne_eqb, lt-ltb, le-ltb, ltb-true, ltb-false}
+use Rattle.std.proofs.Common.{◌≡◌, ℕ, suc, ◌+◌, ◌-◌, ◌<◌, ◌≤◌, Bool, true, false, cond, ◌&&◌, ltb, leb, ◌≢◌, ◌⊎◌, sym, refl, ap, ◌∙◌, inl, inr, le_refl, arith}
+use Rattle.std.proofs.lemmas.Bool.{cases_eq, cases_lt, cases_Bool, eq-eqb, ne_eqb, lt-ltb, le-ltb}
 use Rattle.std.proofs.lemmas.Bool.Decides.{nat_tests}
-use Rattle.theory.specs.Model.{map_v, Layout, upd, blit, sum_to, weight}
+use Rattle.theory.specs.Model.{Layout, upd}
 use Rattle.layouts.specs.declared.values.Value.{Value}
 use Rattle.layouts.specs.declared.values.Value.TheVariants.{Nil, Number, Reference}
-use Rattle.theory.specs.Collect.{Laws, Heap, Flip, size, Reached, Clear, FlipOk, St, Pair, Alive, LooseInv, LooseSide, Grows, Adds, Places}
-use Rattle.theory.specs.Machine.{Shape, half, whole}
+use Rattle.theory.specs.Collect.{Laws, Heap, Flip, size, St, Pair, LooseInv, Grows, Adds, Places}
+use Rattle.theory.specs.Machine.{Shape}
 use Rattle.model.specs.declared.states.Phase.{Phase}
 use Rattle.model.specs.declared.states.Phase.TheVariants.{Idle, Collecting, Imaging}
 use Rattle.theory.specs.Steps.{initial, initially, place, append}
-use Rattle.theory.proofs.Basics.{upd_same, upd_other, upd_at, or_le}
+use Rattle.theory.proofs.Basics.{upd_same, upd_other, upd_at}
 use Rattle.theory.proofs.Flip.{AllDone}
-use Rattle.theory.proofs.New.{Plain, placed, new_keeps, new_grows, span, span_out, span_in}
+use Rattle.theory.proofs.New.{Plain, new_keeps, new_grows, span, span_out, span_in}
 use Rattle.theory.proofs.Roots.{follows}
-use Rattle.theory.proofs.World.{Whole, Scans, Busy, Rest, Phased, Body}
+use Rattle.theory.proofs.World.{Whole, Rest, Phased, Body}
 
 pub plain_initial : (r i : ℕ) → Plain (initial r i)
 plain_initial r i = go (ltb i r)

@@ -1,22 +1,19 @@
 -- What a scan of a page, a FLIP and a collection's end leave of the pairing.
-use Rattle.std.proofs.Common.{◌≡◌, ℕ, zero, suc, ◌+◌, ◌-◌, ◌*◌, ◌/◌, ◌%◌, ◌<◌, ◌≤◌, min, max, Bool, true, false, cond, not, ◌&&◌, ◌||◌, eqb, ltb, leb, ◌≢◌, ◌⊎◌, sym, refl, ap, ◌∙◌, subst, inl, inr, le_refl, add-zero, arith}
-use mathlib.Core.Path.{fun_ext}
-use Rattle.std.proofs.lemmas.Bool.{cases_eq, cases_lt, cases_Bool, both_ways, eq-eqb, ne_eqb, lt-ltb, le-ltb, ltb-true, ltb-false}
-use Rattle.theory.specs.Model.{map_v, Layout, upd, blit, sum_to, weight}
+use Rattle.std.proofs.Common.{◌≡◌, ℕ, suc, ◌+◌, ◌*◌, ◌/◌, ◌<◌, ◌≤◌, min, true, ◌⊎◌, sym, refl, ap, ◌∙◌, inl, inr, le_refl, arith}
+use Rattle.std.proofs.lemmas.Bool.{cases_lt, lt-ltb, le-ltb}
+use Rattle.theory.specs.Model.{Layout, upd}
 use Rattle.layouts.specs.declared.values.Value.{Value}
-use Rattle.layouts.specs.declared.values.Value.TheVariants.{Nil, Number, Reference}
-use Rattle.theory.specs.Collect.{Laws, Heap, Flip, size, Reached, Clear, FlipOk, St, Pair, Alive, LooseInv, LooseSide, Grows, forward_regs}
+use Rattle.theory.specs.Collect.{Laws, Heap, Flip, FlipOk, St, Pair, Alive, LooseInv, LooseSide, forward_regs}
 use Rattle.theory.specs.Reach.{closed_reached_words}
 use Rattle.theory.specs.Machine.{Shape, half, whole, begins, ran_page, grant}
-use Rattle.model.specs.declared.states.Phase.{Phase}
 use Rattle.model.specs.declared.states.Phase.TheVariants.{Idle, Collecting}
-use Rattle.theory.proofs.Basics.{twice, upd_same, upd_other, upd_at, or_le, page_lo, page_hi, page_of}
+use Rattle.theory.proofs.Basics.{twice, page_lo, page_hi}
 use Rattle.theory.proofs.Copy.{in_to}
 use Rattle.theory.proofs.Flip.{AllDone, flipped, empty, flip_ok, flip_keeps, flip_side}
 use Rattle.theory.proofs.Scan.{exactly, complete}
 use Rattle.theory.proofs.Reach.{reached_words}
 use Rattle.theory.proofs.Roots.{follows, Rooted, roots_keep}
-use Rattle.theory.proofs.World.{Whole, Scans, Busy, Rest, Phased, Body}
+use Rattle.theory.proofs.World.{Busy, Rest, Body}
 use Rattle.theory.proofs.Low.{run_low, regs_low}
 use Rattle.theory.proofs.PageScan.{Paged, page_keeps}
 

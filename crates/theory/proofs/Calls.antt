@@ -1,13 +1,11 @@
 -- NEW, LOAD, STORE and SAME at a moment of a collection, and FLIP.
-use Rattle.std.proofs.Common.{◌≡◌, ℕ, zero, suc, ◌+◌, ◌-◌, ◌*◌, ◌/◌, ◌%◌, ◌<◌, ◌≤◌, Bool, true, false, cond, ◌&&◌, eqb, ltb, leb, ◌≢◌, ◌⊎◌, sym, refl, ap, ◌∙◌, subst, inl, inr, arith}
-use Rattle.std.proofs.lemmas.Bool.{cases_eq, cases_lt, cases_Bool, both_ways, false≢true}
-use Rattle.std.proofs.lemmas.Bool.Decides.{nat_tests}
-use Rattle.theory.specs.Model.{map_v, Layout, upd, blit, sum_to, weight}
+use Rattle.std.proofs.Common.{◌≡◌, ℕ, suc, ◌+◌, ◌<◌, true, refl, ap, ◌∙◌, inl, inr, arith}
+use Rattle.std.proofs.lemmas.Bool.{cases_eq}
+use Rattle.theory.specs.Model.{map_v, Layout}
 use Rattle.layouts.specs.declared.values.Value.{Value}
 use Rattle.layouts.specs.declared.values.Value.TheVariants.{Nil, Number, Reference}
-use Rattle.theory.specs.Collect.{Laws, Heap, Flip, size, Reached, Reached.root, Reached.step, Clear, FlipOk, St, Pair, Alive, LooseInv, Grows, Writes, Sets, Adds, Places}
-use Rattle.theory.proofs.Basics.{upd_same, upd_other, upd_at, sum_same, or_le, ref_inj, nil≢ref, num≢ref}
-use Rattle.theory.proofs.Copy.{near_map_v, in_to, map_v_same, alive_more}
+use Rattle.theory.specs.Collect.{Laws, Heap, Flip, FlipOk, St, Pair, Alive, LooseInv, Writes, Sets}
+use Rattle.theory.proofs.Copy.{near_map_v, in_to}
 use Rattle.theory.proofs.Write.{marked, write_keeps}
 use Rattle.theory.proofs.Scan.{admits_map_v}
 

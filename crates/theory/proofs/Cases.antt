@@ -1,9 +1,7 @@
 -- The two ways that a LOAD or STORE goes.
 use Rattle.std.proofs.Common.{◌≡◌, ℕ, ◌/◌, Bool, true, false, cond, eqb, refl}
 use Rattle.theory.specs.Machine.{Shape, Machine, fine}
-use Rattle.model.specs.declared.calls.Call.{Call}
 use Rattle.model.specs.declared.calls.Call.TheVariants.{Load, Store}
-use Rattle.model.specs.declared.calls.Answer.{Answer}
 use Rattle.theory.specs.Steps.{Outcome, act, traps, did, slot_at, loaded, stored}
 
 cond_ways : {X : Type 0} (t : Bool) (x y : X) (Q : X → Type 0) → (t ≡ true → Q x) → (t ≡ false → Q y) → Q (cond t x y)

@@ -1,7 +1,6 @@
 -- The fourth promise: images, by what holds in closed form.
 use Rattle.std.proofs.Common.{◌≡◌, ℕ, zero, suc, ◌+◌, ◌-◌, ◌*◌, ◌/◌, ◌%◌, ◌<◌, ◌≤◌, Bool, true, false, cond, not, ◌&&◌, eqb, ltb, leb, ◌∷◌, Option, sym, refl, ap, ◌∙◌, subst, ap₂, arith}
 use Rattle.std.proofs.lemmas.Bool.Decides.{nat_tests}
-use Rattle.std.specs.declared.option.Option.TheVariants as Option
 use Rattle.memory.specs.Memory.{Memory, legal_sizes}
 use Rattle.memory.specs.declared.refusals.Refusal.TheVariants.{Short, Busy, Nothing}
 use Rattle.layouts.specs.Layouts.{Rules, Lawful}
@@ -18,7 +17,7 @@ use Rattle.model.specs.Calls.{call, carried_out, turned_down, after}
 use Rattle.model.specs.Runs.{is_mark}
 use Rattle.model.specs.Restoring.{half_of, restored, restore_refusal}
 use Rattle.model.specs.Checkpoints.{SameContents, ImagesRestoreTheirMoment, saves, RestoredHeapsWriteTheirImage}
-use Rattle.theory.specs.Machine.{Shape, half, refused}
+use Rattle.theory.specs.Machine.{Shape, refused}
 use Rattle.theory.specs.Steps.{act, did, denied, call as closed_call}
 use Rattle.theory.specs.Runs.{after as closed_after}
 use Rattle.theory.specs.Restore.{SameHeap, restored as closed_restored, closed_restore_refusal, save_times}

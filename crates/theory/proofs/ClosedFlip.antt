@@ -5,14 +5,13 @@ use Rattle.std.proofs.lemmas.Bool.Decides.{nat_tests}
 use Rattle.memory.specs.Rights.{rank, lesser}
 use Rattle.memory.specs.Memory.{Memory, legal_sizes, lowered_run, after_protn}
 use Rattle.memory.specs.declared.rights.Right.{Right}
-use Rattle.memory.specs.declared.rights.Right.TheVariants as Right
 use Rattle.layouts.specs.Layouts.{Rules, Lawful}
 use Rattle.layouts.specs.declared.values.Value.{Value}
 use Rattle.model.specs.declared.states.Half.{Half}
 use Rattle.model.specs.declared.states.Half.TheVariants.{Lower, Upper}
 use Rattle.model.specs.declared.states.Phase.TheVariants.{Idle, Collecting}
 use Rattle.model.specs.declared.calls.Call.TheVariants.{Flip}
-use Rattle.model.specs.Heap.{Heap as MovingHeap, plus, half_number, other_half, half_pages, first_page, to_page, whole_pages, moving}
+use Rattle.model.specs.Heap.{Heap as MovingHeap, plus, half_number, other_half, half_pages, first_page, to_page, whole_pages}
 use Rattle.model.specs.Forwarding.{Roots, roots_forwarded}
 use Rattle.model.specs.Collecting.{opened, words_used, flipped_memory, swapped, roots_of, flipped}
 use Rattle.model.specs.Outcomes.{Machine, with_heap}

@@ -6,7 +6,6 @@ use Rattle.std.proofs.lemmas.Nat.{div_below}
 use Rattle.memory.specs.Rights.{rank, lesser}
 use Rattle.memory.specs.Memory.{Memory, legal_sizes, extent, run_inside, with_word, lowered_run, after_set, after_protn}
 use Rattle.memory.specs.declared.rights.Right.{Right}
-use Rattle.memory.specs.declared.rights.Right.TheVariants as Right
 use Rattle.memory.proofs.Memories.{same_memory, after_set_inside, extent_small}
 use Rattle.layouts.specs.Layouts.{Rules}
 use Rattle.model.specs.Heap.{Moving, plus}

@@ -3,11 +3,9 @@ use Rattle.std.proofs.Common.{◌≡◌, ℕ, zero, suc, ◌+◌, ◌-◌, ◌*�
 use Rattle.std.proofs.lemmas.Bool.{cases_eq, cases_lt, cond-true, eq-eqb, ne_eqb, lt-ltb, le-ltb}
 use Rattle.std.proofs.lemmas.Bool.Decides.{nat_tests}
 use Rattle.std.proofs.lemmas.Nat.{le-div}
-use Rattle.std.specs.declared.option.Option.TheVariants as Option
 use Rattle.memory.specs.Rights.{rank, lesser}
 use Rattle.memory.specs.Memory.{Memory, legal_sizes, changed, with_right, after_prot1, after_unprot}
 use Rattle.memory.specs.declared.rights.Right.{Right}
-use Rattle.memory.specs.declared.rights.Right.TheVariants as Right
 use Rattle.memory.proofs.Memories.{same_memory}
 use Rattle.layouts.specs.Layouts.{Rules, Lawful}
 use Rattle.layouts.specs.declared.values.Value.{Value}
@@ -15,10 +13,10 @@ use Rattle.model.specs.declared.states.Phase.TheVariants.{Idle, Imaging}
 use Rattle.model.specs.declared.calls.Call.TheVariants.{Mark, Save}
 use Rattle.model.specs.Heap.{Heap as MovingHeap, half_number, half_pages, half_words, to_page, to_start, with_memory, with_unsaved, with_mark_start, with_phase}
 use Rattle.model.specs.Scanning.{lowest as lowest_of}
-use Rattle.model.specs.Images.{kind_number, payload, register_word, imaged_address, is_used_page, used_lowered, marked_buffer, mark, was_used, saves_word, saved_buffer, page_saved, lowest_unsaved, save_left, save_on}
+use Rattle.model.specs.Images.{kind_number, payload, register_word, imaged_address, is_used_page, used_lowered, marked_buffer, was_used, saves_word, saved_buffer, page_saved, lowest_unsaved, save_left, save_on}
 use Rattle.model.specs.Outcomes.{Machine}
 use Rattle.model.specs.Calls.{carried_out}
-use Rattle.theory.specs.Machine.{Shape, half, lowest, Machine as Closed}
+use Rattle.theory.specs.Machine.{Shape, half, Machine as Closed}
 use Rattle.theory.specs.Buffer.{closed_mark_words, closed_page_words}
 use Rattle.theory.specs.Steps.{act, mark_now, save_page, lowest_pend, saved, save as closed_save}
 use Rattle.theory.specs.Closed.{both_halves, closed_shape, closed}

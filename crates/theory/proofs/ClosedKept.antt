@@ -4,7 +4,6 @@ use Rattle.std.proofs.lemmas.Bool.Decides.{nat_tests}
 use Rattle.memory.specs.Rights.{lesser, greater}
 use Rattle.memory.specs.Memory.{Memory, inside, run_inside, with_word, with_right, lowered_run, after_set, after_protn, after_prot1, after_unprot}
 use Rattle.memory.specs.declared.rights.Right.{Right}
-use Rattle.memory.specs.declared.rights.Right.TheVariants as Right
 use Rattle.layouts.specs.Layouts.{Rules}
 use Rattle.layouts.specs.declared.values.Value.{Value}
 use Rattle.layouts.specs.declared.values.Value.TheVariants.{Nil, Number, Reference}

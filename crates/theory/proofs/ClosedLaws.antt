@@ -1,12 +1,11 @@
 -- A lawful layout has the laws of the closed form, and legal sizes are small.
-use Rattle.std.proofs.Common.{◌≡◌, ℕ, ◌+◌, ◌*◌, ◌/◌, ◌%◌, ◌^◌, ◌<◌, ◌≤◌, Bool, true, false, cond, ltb, Some, None, Option, sym, refl, ap, ◌∙◌, arith}
+use Rattle.std.proofs.Common.{◌≡◌, ℕ, ◌+◌, ◌/◌, ◌%◌, ◌<◌, ◌≤◌, true, Some, None, Option, refl, ap, ◌∙◌, arith}
 use Rattle.std.proofs.lemmas.Bool.{false≢true}
 use Rattle.std.proofs.lemmas.Bool.Decides.{nat_tests}
 use Rattle.std.proofs.lemmas.Nat.{mul-le}
 use Rattle.memory.specs.Memory.{legal_sizes}
 use Rattle.layouts.specs.Layouts.{Rules, Lawful, addressable}
 use Rattle.layouts.specs.declared.values.Value.{Value}
-use Rattle.layouts.specs.declared.values.Value.TheVariants.{Nil, Number, Reference}
 use Rattle.model.specs.Objects.{some_or_0, slot_count, is_some, is_header, packed_word}
 use Rattle.theory.specs.Collect.{Laws}
 use Rattle.theory.specs.Closed.{closed_layout, both_halves}

@@ -3,7 +3,6 @@ use Rattle.std.proofs.Common.{◌≡◌, ℕ, zero, suc, ◌+◌, ◌-◌, ◌*�
 use Rattle.std.proofs.lemmas.Bool.{cases_eq, cases_Bool, false≢true, eq-eqb, ne_eqb, not-false}
 use Rattle.std.proofs.lemmas.Bool.Decides.{nat_tests}
 use Rattle.std.proofs.lemmas.Nat.{mul-le}
-use Rattle.std.specs.declared.option.Option.TheVariants as Option
 use Rattle.memory.specs.Rights.{rank, may_write}
 use Rattle.memory.specs.Memory.{Memory, legal_sizes, extent, look_answer, put_answer, with_word, after_put}
 use Rattle.memory.specs.declared.hosts.Denied.TheVariants.{Fault}

@@ -1,20 +1,16 @@
 -- The never-moving heap's calls are those of its closed form.
-use Rattle.std.proofs.Common.{◌≡◌, ℕ, zero, suc, ◌+◌, ◌-◌, ◌*◌, ◌/◌, ◌<◌, ◌≤◌, Bool, true, false, cond, not, ◌&&◌, ◌||◌, eqb, ltb, leb, ◌≢◌, ◌⊎◌, List, [], ◌∷◌, ◌++◌, length, get_or, set, replicate, Some, sym, refl, ap, ◌∙◌, ap₂, inl, inr, arith}
-use mathlib.Core.Path.{fun_ext}
-use Rattle.std.proofs.lemmas.Bool.{cases_eq, cases_lt, cases_Bool, false≢true, eq-eqb, ne_eqb, lt-ltb, le-ltb, leb-false, not-false}
-use Rattle.std.proofs.lemmas.Bool.Decides.{nat_tests}
+use Rattle.std.proofs.Common.{◌≡◌, ℕ, ◌+◌, ◌-◌, ◌<◌, ◌≤◌, ◌≢◌, List, [], ◌∷◌, ◌++◌, length, get_or, set, replicate, Some, sym, ap, ◌∙◌, ap₂, inl, inr, arith}
+use Rattle.std.proofs.lemmas.Bool.{cases_eq, cases_lt, eq-eqb, ne_eqb, lt-ltb, le-ltb}
 use Rattle.std.proofs.lemmas.List.{length_push, length-append, length-replicate, get_or_push, get_or-replicate, get_or_append_left, get_or-append_right, get_or_past, get_or-set_same, get_or-set_other, length-set}
 use Rattle.layouts.specs.Layouts.{Rules, Lawful}
 use Rattle.layouts.specs.declared.values.Value.{Value}
-use Rattle.layouts.specs.declared.values.Value.TheVariants.{Nil, Number, Reference}
-use Rattle.model.specs.Objects.{some_or_0, slot_count, is_reference, referred, initial}
+use Rattle.layouts.specs.declared.values.Value.TheVariants.{Nil, Number}
 use Rattle.model.specs.Reaching.{Object, object_at, slot_at}
 use Rattle.model.specs.Never.{new_object, assigned}
-use Rattle.theory.specs.Model.{upd}
 use Rattle.theory.specs.Collect.{Heap}
 use Rattle.theory.specs.Steps.{initially, append, assign}
 use Rattle.theory.specs.Closed.{closed_layout}
-use Rattle.theory.proofs.Basics.{upd_same, upd_other, upd_at}
+use Rattle.theory.proofs.Basics.{upd_other, upd_at}
 
 -- the objects by place
 abbrev pub placed : List Object → Heap

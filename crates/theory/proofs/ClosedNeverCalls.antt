@@ -7,7 +7,6 @@ use Rattle.memory.specs.declared.refusals.Refusal.{Refusal}
 use Rattle.layouts.specs.Layouts.{Rules, Lawful}
 use Rattle.layouts.specs.declared.values.Value.{Value}
 use Rattle.layouts.specs.declared.values.Value.TheVariants.{Nil, Number, Reference}
-use Rattle.std.specs.declared.option.Option.TheVariants as Option
 use Rattle.model.specs.declared.calls.Answer.TheVariants as Answer
 use Rattle.model.specs.declared.calls.Call.{Call}
 use Rattle.model.specs.declared.calls.Call.TheVariants.{New, Load, Store, Copy, SetNumber, SetNil, Same, Tell, Count, Flip, Step, Take, Resolve, Mark, Save}

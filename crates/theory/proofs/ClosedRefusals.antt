@@ -1,16 +1,14 @@
 -- The refusals of both heaps, by number, are those of their closed forms.
-use Rattle.std.proofs.Common.{◌≡◌, ℕ, zero, suc, ◌+◌, ◌-◌, ◌*◌, ◌/◌, ◌^◌, ◌<◌, ◌≤◌, min, Bool, true, false, cond, not, ◌&&◌, ◌||◌, eqb, ltb, leb, ◌≢◌, length, Some, None, Option, sym, refl, ap, ◌∙◌, arith}
+use Rattle.std.proofs.Common.{◌≡◌, ℕ, suc, ◌+◌, ◌<◌, ◌≤◌, Bool, true, false, cond, not, ◌&&◌, ◌||◌, ltb, leb, ◌≢◌, Some, None, Option, refl, ap, ◌∙◌, arith}
 use Rattle.std.proofs.lemmas.Bool.{false≢true, not-false, or_parts, ltb-false, leb-false}
 use Rattle.std.proofs.lemmas.Bool.Decides.{nat_tests}
 use Rattle.memory.specs.Refusals.{number}
 use Rattle.memory.specs.declared.refusals.Refusal.{Refusal}
 use Rattle.memory.specs.declared.refusals.Refusal.TheVariants.{Size, Outside, Name, Shape, Short, OtherImage, BadImage, Frames, Waits, NoReference, Slot, Misfit, NoSpace, Busy, FaultStands, Nothing, NoFault}
-use Rattle.layouts.specs.Layouts.{Rules}
 use Rattle.layouts.specs.declared.values.Value.{Value}
 use Rattle.layouts.specs.declared.values.Value.TheVariants.{Nil, Number, Reference}
 use Rattle.model.specs.declared.calls.Call.{Call}
 use Rattle.model.specs.declared.calls.Call.TheVariants.{New, Load, Store, Copy, SetNumber, SetNil, Same, Tell, Count, Flip, Step, Take, Resolve, Mark, Save}
-use Rattle.model.specs.declared.states.Phase.{Phase}
 use Rattle.model.specs.Heap.{register_number}
 use Rattle.model.specs.Objects.{is_reference, referred}
 use Rattle.model.specs.Refusing.{View, refuse_if, refusal, no_mutator, no_register, is_in_hand, is_running, is_waiting, is_idle, is_collecting, is_imaging, all_running}

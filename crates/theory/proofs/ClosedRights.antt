@@ -5,7 +5,6 @@ use Rattle.std.proofs.lemmas.Bool.Decides.{nat_tests}
 use Rattle.memory.specs.Rights.{rank, lesser, greater}
 use Rattle.memory.specs.Memory.{Memory, run_inside, lowered_run, with_right, after_protn, after_unprot}
 use Rattle.memory.specs.declared.rights.Right.{Right}
-use Rattle.memory.specs.declared.rights.Right.TheVariants as Right
 use Rattle.memory.proofs.Memories.{same_memory}
 use Rattle.memory.proofs.Ranks.{rank_lesser}
 use Rattle.model.specs.Collecting.{opened}

@@ -1,6 +1,6 @@
 -- Words written on pages at all: the memory that is left.
-use Rattle.std.proofs.Common.{◌≡◌, ℕ, zero, suc, ◌+◌, ◌-◌, ◌*◌, ◌/◌, ◌<◌, ◌≤◌, Bool, true, false, cond, ◌&&◌, eqb, ltb, leb, ◌≢◌, ◌⊎◌, Ok, Err, Result, sym, refl, ap, ◌∙◌, inl, inr, arith}
-use Rattle.std.proofs.lemmas.Bool.{cases_eq, cases_lt, eq-eqb, ne_eqb}
+use Rattle.std.proofs.Common.{◌≡◌, ℕ, zero, suc, ◌+◌, ◌-◌, ◌<◌, ◌≤◌, true, false, cond, ◌&&◌, eqb, ltb, leb, ◌≢◌, Ok, Err, Result, sym, refl, ap, ◌∙◌, inl, inr, arith}
+use Rattle.std.proofs.lemmas.Bool.{cases_eq, eq-eqb, ne_eqb}
 use Rattle.std.proofs.lemmas.Bool.Decides.{nat_tests}
 use Rattle.memory.specs.Rights.{rank, may_read, may_write}
 use Rattle.memory.specs.Memory.{Memory, changed, extent, page_of, inside, look_answer, put_answer, with_word, after_put}
@@ -8,7 +8,7 @@ use Rattle.memory.specs.declared.hosts.Denied.{Denied}
 use Rattle.memory.specs.declared.hosts.Denied.TheVariants.{Fault}
 use Rattle.memory.specs.declared.rights.Right.{Right}
 use Rattle.memory.specs.declared.rights.Right.TheVariants.{None, Read, All}
-use Rattle.memory.proofs.Memories.{same_memory, after_put_allowed, look_allowed, put_allowed}
+use Rattle.memory.proofs.Memories.{same_memory, after_put_allowed}
 use Rattle.layouts.specs.Layouts.{Rules}
 use Rattle.model.specs.Objects.{packed_word, initial}
 use Rattle.model.specs.Mutators.{slots_put, object_put}

@@ -12,8 +12,8 @@ use Rattle.model.specs.Collections.{Tally, tallied, SinceFlip, SinceFlip.flips, 
 use Rattle.model.specs.Runs.{Both, both_after, both_after_all, Accepted}
 use Rattle.theory.specs.Machine.{Shape, Machine as Closed, Never as ClosedNeverMoving}
 use Rattle.theory.specs.Steps.{call as closed_call, n_call}
-use Rattle.theory.specs.Pairing.{SinceFrom, SinceFrom.flips, SinceFrom.goes, Paired as ClosedPaired, Ends}
-use Rattle.theory.specs.Bounds.{SteppingFrom, SteppingFrom.flips, SteppingFrom.goes, steps}
+use Rattle.theory.specs.Pairing.{SinceFrom, SinceFrom.flips, Paired as ClosedPaired, Ends}
+use Rattle.theory.specs.Bounds.{SteppingFrom, SteppingFrom.flips}
 use Rattle.theory.specs.Closed.{closed, closed_never}
 use Rattle.theory.proofs.Collects.{SimOf, Lasts, lasts, collects}
 use Rattle.theory.proofs.StepBound.{step_bound}

@@ -1,23 +1,19 @@
 -- A collection, from its FLIP to the STEP that ends it.
-use Rattle.std.proofs.Common.{◌≡◌, ℕ, zero, suc, ◌+◌, ◌-◌, ◌*◌, ◌/◌, ◌<◌, ◌≤◌, min, max, Bool, true, false, cond, not, ◌&&◌, ◌||◌, eqb, ltb, leb, ◌≢◌, ◌⊎◌, sym, refl, ap, ◌∙◌, subst, inl, inr, arith}
-use Rattle.std.proofs.lemmas.Bool.{cases_eq, cases_lt, cases_Bool, both_ways, eq-eqb, ne_eqb, lt-ltb}
-use Rattle.theory.specs.Model.{map_v, Layout, upd, sum_to, weight}
-use Rattle.layouts.specs.declared.values.Value.{Value}
-use Rattle.layouts.specs.declared.values.Value.TheVariants.{Nil, Number, Reference}
-use Rattle.theory.specs.Collect.{Laws, Heap, Flip, FlipOk, Reached, St, Pair, Alive, LooseInv, size}
+use Rattle.std.proofs.Common.{◌≡◌, ℕ, suc, ◌+◌, ◌*◌, ◌/◌, ◌<◌, true, sym, refl, ap, ◌∙◌, subst, inl, inr, arith}
+use Rattle.std.proofs.lemmas.Bool.{cases_lt, lt-ltb}
+use Rattle.theory.specs.Collect.{Laws, Flip, Reached}
 use Rattle.theory.specs.Reach.{reaches}
-use Rattle.theory.specs.Machine.{Shape, half, Machine, Never, view_m, refusal, closed_is_idle, Found, Found.none, Found.found}
-use Rattle.model.specs.declared.states.Phase.{Phase}
+use Rattle.theory.specs.Machine.{Shape, half, Machine, Never, view_m, refusal}
 use Rattle.model.specs.declared.states.Phase.TheVariants.{Idle, Collecting}
 use Rattle.model.specs.declared.calls.Call.{Call}
 use Rattle.model.specs.declared.calls.Call.TheVariants.{Flip as Turn, Step}
-use Rattle.model.specs.Outcomes.{Told, Told.ended, Told.nothing}
-use Rattle.theory.specs.Steps.{call, n_call, scanned_all, step, stepped, act, lowest_behind, scan_page, Outcome}
+use Rattle.model.specs.Outcomes.{Told.ended}
+use Rattle.theory.specs.Steps.{call, n_call, scanned_all, step, lowest_behind}
 use Rattle.theory.specs.Pairing.{SinceFrom, SinceFrom.flips, SinceFrom.goes, Paired, Ends, CollectsFrom}
 use Rattle.theory.proofs.Calls.{load_agrees}
 use Rattle.theory.proofs.Reach.{reaches_all, reaches_only}
 use Rattle.theory.proofs.World.{Body, World, Busy, Rest, Phased}
-use Rattle.theory.proofs.Sim.{Agrees, simulate, step_left, Left, Counted}
+use Rattle.theory.proofs.Sim.{simulate, step_left, Left}
 
 -- what the pairing is, however long the collection lasts
 pub record Lasts (H : Shape) (a₀ : Never) (co sc : ℕ) (m : Machine) (a : Never) : Type 0 where

@@ -1,13 +1,12 @@
 -- Copying an object that has not been copied keeps the invariant.
-use Rattle.std.proofs.Common.{◌≡◌, ℕ, zero, suc, ◌+◌, ◌-◌, ◌*◌, ◌/◌, ◌%◌, ◌<◌, ◌≤◌, Bool, true, false, cond, eqb, ltb, leb, ◌≢◌, ◌⊎◌, sym, refl, ap, ◌∙◌, subst, inl, inr, add-zero, arith}
-use Rattle.std.proofs.lemmas.Bool.{eq-eqb, ne_eqb, cases_eq, cases_lt, both_ways, lt-ltb}
-use Rattle.std.proofs.lemmas.Bool.Decides.{nat_tests}
-use Rattle.theory.specs.Model.{map_v, Layout, upd, blit, sum_to, weight}
+use Rattle.std.proofs.Common.{◌≡◌, ℕ, suc, ◌+◌, ◌*◌, ◌/◌, ◌<◌, ◌≤◌, Bool, true, false, ◌≢◌, ◌⊎◌, sym, refl, ap, ◌∙◌, inl, inr, add-zero, arith}
+use Rattle.std.proofs.lemmas.Bool.{cases_eq, cases_lt, both_ways, lt-ltb}
+use Rattle.theory.specs.Model.{map_v, Layout, upd, sum_to, weight}
 use Rattle.layouts.specs.declared.values.Value.{Value}
 use Rattle.layouts.specs.declared.values.Value.TheVariants.{Nil, Number, Reference}
 use Rattle.layouts.specs.Layouts.{addressable}
-use Rattle.theory.specs.Collect.{Laws, Heap, Flip, size, Reached, Reached.root, Reached.step, Clear, FlipOk, St, Pair, Alive, LooseInv, Grows, Copies, LooseSide}
-use Rattle.theory.proofs.Basics.{upd_same, upd_other, upd_at, weight_add, sum_mono, weight_mono, or_le}
+use Rattle.theory.specs.Collect.{Heap, Flip, size, Reached, Clear, FlipOk, St, Pair, Alive, LooseInv, Grows, Copies, LooseSide}
+use Rattle.theory.proofs.Basics.{upd_other, upd_at, weight_add, sum_mono, weight_mono, or_le}
 
 -- the pairing with p at b
 abbrev pub paired : Pair → ℕ → ℕ → Pair

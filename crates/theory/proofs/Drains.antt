@@ -1,28 +1,18 @@
 -- What every call but an accepted MARK or FLIP leaves of an image under way.
-use Rattle.std.proofs.Common.{◌≡◌, ℕ, zero, suc, ◌+◌, ◌-◌, ◌*◌, ◌/◌, ◌%◌, ◌<◌, ◌≤◌, min, max, Bool, true, false, cond, not, ◌&&◌, ◌||◌, eqb, ltb, leb, ◌≢◌, ◌⊎◌, List, [], ◌∷◌, sym, refl, ap, ◌∙◌, subst, inl, inr, le_refl, mul-le-mul_right, mul_assoc, div-lt_iff_lt-mul, le-div_iff_mul-le, arith}
-use Rattle.std.proofs.lemmas.Bool.{cases_eq, cases_lt, cases_Bool, both_ways, eq-eqb, ne_eqb, eqb-false, ltb-false, and_from, and_parts, or_parts, or_left, or_right, not-false, not-true}
-use Rattle.theory.specs.Model.{map_v, Layout, upd}
-use Rattle.layouts.specs.declared.values.Value.{Value}
-use Rattle.layouts.specs.declared.values.Value.TheVariants.{Nil, Number, Reference}
-use Rattle.theory.specs.Collect.{Laws, Heap, Flip, St, Pair, LooseInv, size}
-use Rattle.theory.specs.Machine.{Shape, half, whole, Machine, Never, trapped, fine, refused, view_m, refusal, bad, at, is_busy, closed_is_idle, closed_is_imaging, closed_is_running, lowest, Found, Found.none, Found.found}
-use Rattle.model.specs.declared.states.State.{State}
-use Rattle.model.specs.declared.states.State.TheVariants.{Running, Waiting, InHand}
-use Rattle.model.specs.declared.states.Phase.{Phase}
+use Rattle.std.proofs.Common.{◌≡◌, ℕ, ◌+◌, ◌<◌, Bool, true, false, not, ◌&&◌, ltb, ◌≢◌, sym, refl, ap, ◌∙◌, subst, inl, inr, arith}
+use Rattle.std.proofs.lemmas.Bool.{cases_eq, both_ways, eq-eqb, ne_eqb, and_parts, not-false}
+use Rattle.theory.specs.Model.{upd}
+use Rattle.theory.specs.Collect.{Laws}
+use Rattle.theory.specs.Machine.{Shape, half, Machine, view_m, refusal, is_busy, closed_is_imaging, Found, Found.none, Found.found}
 use Rattle.model.specs.declared.states.Phase.TheVariants.{Idle, Collecting, Imaging}
 use Rattle.model.specs.declared.calls.Call.{Call}
 use Rattle.model.specs.declared.calls.Call.TheVariants.{New, Load, Store, Copy, SetNumber, SetNil, Same, Tell, Count, Flip as Turn, Step, Take, Resolve, Mark, Save}
-use Rattle.model.specs.declared.calls.Answer.{Answer}
-use Rattle.theory.specs.Steps.{call, act, denied, traps, did, save, saved, resolved, resolved_save, closed_new_at, behind, scan_page, save_page, lowest_pend, Outcome, fresh_m}
-use Rattle.theory.specs.Runs.{after, Quiet, resolves, marks}
-use Rattle.theory.proofs.Basics.{upd_same, upd_other, upd_at, page_lo, page_hi, page_of, div_mono, lowest_passes, lowest_least}
+use Rattle.theory.specs.Steps.{call, act, denied, save, saved, resolved, resolved_save, closed_new_at, behind, save_page, lowest_pend}
+use Rattle.theory.specs.Runs.{marks}
+use Rattle.theory.proofs.Basics.{upd_same, upd_other, upd_at}
 use Rattle.theory.proofs.Cases.{load_ways, store_ways}
-use Rattle.theory.proofs.Copy.{start_top}
-use Rattle.theory.proofs.Refusals.{cond_zero, name_ok}
-use Rattle.theory.proofs.World.{Body, World, Busy, Rest, Phased}
-use Rattle.theory.proofs.Rights.{InTo, Rights, RightsOf, Good, good_call, good_after}
-use Rattle.theory.proofs.Sim.{busy_phase, image_phase, new_space, calm}
-use Rattle.theory.proofs.Standing.{StandsAt, Stands, stands_call, no_turn}
+use Rattle.theory.proofs.Refusals.{cond_zero}
+use Rattle.theory.proofs.Sim.{busy_phase, image_phase}
 
 -- from one state to a later one of the same image, or one after it with no other begun
 pub record Drains (m m' : Machine) : Type 0 where

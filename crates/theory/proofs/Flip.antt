@@ -1,12 +1,12 @@
 -- FLIP, from a heap whose every word is scanned.
-use Rattle.std.proofs.Common.{◌≡◌, ℕ, zero, suc, ◌+◌, ◌-◌, ◌*◌, ◌/◌, ◌%◌, ◌<◌, ◌≤◌, Bool, true, false, cond, ◌&&◌, ◌≢◌, ◌⊎◌, sym, refl, ap, ◌∙◌, subst, inl, inr, le_refl, add-zero, arith}
-use Rattle.std.proofs.lemmas.Bool.{cases_eq, cases_lt, cases_Bool, both_ways, false≢true}
-use Rattle.theory.specs.Model.{map_v, Layout, upd, blit, sum_to, weight}
+use Rattle.std.proofs.Common.{◌≡◌, ℕ, zero, suc, ◌+◌, ◌<◌, ◌≤◌, true, false, ◌⊎◌, refl, inl, inr, le_refl, arith}
+use Rattle.std.proofs.lemmas.Bool.{cases_lt, false≢true}
+use Rattle.theory.specs.Model.{Layout, sum_to, weight}
 use Rattle.layouts.specs.declared.values.Value.{Value}
-use Rattle.layouts.specs.declared.values.Value.TheVariants.{Nil, Number, Reference}
-use Rattle.theory.specs.Collect.{Laws, Heap, Flip, size, Reached, Clear, FlipOk, LooseSide, St, Pair, Alive, LooseInv, Grows}
-use Rattle.theory.proofs.Basics.{upd_same, upd_other, upd_at, sum_same, or_le}
-use Rattle.theory.proofs.Copy.{in_to, start_top}
+use Rattle.layouts.specs.declared.values.Value.TheVariants.{Reference}
+use Rattle.theory.specs.Collect.{Heap, Flip, size, FlipOk, LooseSide, St, Pair, Alive, LooseInv}
+use Rattle.theory.proofs.Basics.{or_le}
+use Rattle.theory.proofs.Copy.{start_top}
 
 pub sum_none : (size : ℕ → ℕ) (n : ℕ) → sum_to n (weight size (λ p. false)) ≡ 0
 sum_none size zero = refl

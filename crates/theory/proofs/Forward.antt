@@ -1,12 +1,10 @@
 -- Forwarding keeps the invariant and answers the place's new address.
-use Rattle.std.proofs.Common.{◌≡◌, ℕ, zero, suc, ◌+◌, ◌-◌, ◌*◌, ◌/◌, ◌%◌, ◌<◌, ◌≤◌, Bool, true, false, cond, ◌&&◌, eqb, ltb, leb, ◌≢◌, ◌⊎◌, sym, refl, ap, ◌∙◌, subst, inl, inr, le_refl, add-zero, arith}
+use Rattle.std.proofs.Common.{◌≡◌, ℕ, suc, ◌+◌, ◌*◌, ◌/◌, ◌%◌, ◌<◌, ◌≤◌, true, cond, ◌&&◌, leb, ◌≢◌, sym, refl, ap, ◌∙◌, inl, inr, le_refl, arith}
 use Rattle.std.proofs.lemmas.Bool.Decides.{nat_tests}
-use Rattle.std.proofs.lemmas.Bool.{eq-eqb, ne_eqb, cases_eq, cases_lt, cases_Bool, both_ways}
-use Rattle.theory.specs.Model.{map_v, Layout, upd, blit, sum_to, weight}
-use Rattle.layouts.specs.declared.values.Value.{Value}
-use Rattle.layouts.specs.declared.values.Value.TheVariants.{Nil, Number, Reference}
-use Rattle.theory.specs.Collect.{Laws, Heap, Flip, size, Reached, Clear, FlipOk, St, Pair, Alive, LooseInv, Grows, Copies, copied, forward, shut, LooseSide}
-use Rattle.theory.proofs.Basics.{upd_same, upd_other, upd_at, blit_in, blit_out, or_le, div_mono}
+use Rattle.std.proofs.lemmas.Bool.{eq-eqb, ne_eqb, cases_Bool}
+use Rattle.theory.specs.Model.{Layout, upd, blit}
+use Rattle.theory.specs.Collect.{Laws, Heap, Flip, Reached, Clear, FlipOk, St, Pair, LooseInv, Grows, Copies, copied, forward, shut, LooseSide}
+use Rattle.theory.proofs.Basics.{upd_same, upd_other, blit_in, blit_out, or_le, div_mono}
 use Rattle.theory.proofs.Copy.{paired, space, start_top, copy_keeps, copy_grows, copy_side}
 
 pub shut_in : (P : ℕ) (right : ℕ → ℕ) (a b n : ℕ) → a / P ≤ n → n ≤ b / P → shut P right a b n ≡ 0

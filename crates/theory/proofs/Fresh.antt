@@ -1,14 +1,11 @@
 -- The heap as after MAKE, paired with the never-moving one.
-use Rattle.std.proofs.Common.{◌≡◌, ℕ, zero, suc, ◌+◌, ◌-◌, ◌*◌, ◌/◌, ◌<◌, ◌≤◌, Bool, true, false, cond, ◌≢◌, ◌⊎◌, List, [], ◌∷◌, sym, refl, ap, ◌∙◌, inl, inr, le_refl, arith}
+use Rattle.std.proofs.Common.{ℕ, false, refl, le_refl, arith}
 use Rattle.std.proofs.lemmas.Bool.{false≢true}
-use Rattle.theory.specs.Model.{Layout, sum_to, weight}
-use Rattle.layouts.specs.declared.values.Value.{Value}
-use Rattle.layouts.specs.declared.values.Value.TheVariants.{Nil, Number, Reference}
-use Rattle.theory.specs.Collect.{Laws, Heap, Flip, Reached, FlipOk, St, Pair, LooseInv, LooseSide}
-use Rattle.theory.specs.Machine.{Shape, half, Machine, Never}
-use Rattle.model.specs.declared.calls.Call.{Call}
+use Rattle.layouts.specs.declared.values.Value.TheVariants.{Nil}
+use Rattle.theory.specs.Collect.{Flip, FlipOk, Pair, LooseInv}
+use Rattle.theory.specs.Machine.{Shape, half}
 use Rattle.theory.specs.Steps.{fresh_m, fresh_a}
-use Rattle.theory.proofs.World.{Body, World}
+use Rattle.theory.proofs.World.{World}
 use Rattle.theory.proofs.Scan.{reached_here}
 
 module _ (H : Shape) where

@@ -1,17 +1,14 @@
 -- The promises one by one, over lists of calls that begin at MAKE.
-use Rattle.std.proofs.Common.{◌≡◌, ℕ, ◌+◌, ◌-◌, ◌*◌, ◌/◌, ◌<◌, ◌≤◌, List, [], ◌∷◌, refl, ap, ap₂, rules, arith}
+use Rattle.std.proofs.Common.{◌≡◌, ℕ, ◌<◌, List, [], ◌∷◌, refl, ap₂, arith}
 use Rattle.std.proofs.lemmas.Bool.{lt-ltb}
-use Rattle.model.specs.declared.states.Phase.TheVariants.{Collecting}
 use Rattle.model.specs.declared.calls.Call.{Call}
-use Rattle.model.specs.declared.calls.Call.TheVariants.{Flip as Turn}
-use Rattle.model.specs.Promises.{KeepsItsPromises}
 use Rattle.model.specs.Starts.{both_made, Start.at_make}
 use Rattle.theory.specs.Collect.{Laws, Flip, Heap, St, Pair, Room, Inv, LooseInv, Side, LooseSide}
 use Rattle.theory.specs.Model.{Layout}
-use Rattle.theory.specs.Machine.{Shape, Machine, Never, view_m, refusal}
+use Rattle.theory.specs.Machine.{Shape, Machine, Never}
 use Rattle.theory.specs.Steps.{call, n_call, fresh_m, fresh_a, run_m, run_a, answers}
 use Rattle.theory.specs.Pairing.{Comes, Comes.made, Comes.called, Since, Since.flips, Since.goes, SinceFrom, SinceFrom.flips as flips_from, SinceFrom.goes as goes_from, Collects}
-use Rattle.theory.specs.Bounds.{steps, Stepping, Stepping.flips as step_flips, Stepping.goes as step_goes, SteppingFrom, SteppingFrom.flips as step_flips_from, SteppingFrom.goes as step_goes_from, StepBound}
+use Rattle.theory.specs.Bounds.{Stepping, Stepping.flips as step_flips, Stepping.goes as step_goes, SteppingFrom, SteppingFrom.flips as step_flips_from, SteppingFrom.goes as step_goes_from, StepBound}
 use Rattle.theory.specs.Image.{ImageSealed}
 use Rattle.theory.specs.Restore.{ImageRestores}
 use Rattle.theory.specs.Runs.{AccessRepeats, NewRepeats, TrapsWhen}

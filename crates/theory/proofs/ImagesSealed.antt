@@ -11,7 +11,7 @@ use Rattle.model.specs.Outcomes.{Machine}
 use Rattle.model.specs.Calls.{call}
 use Rattle.model.specs.Checkpoints.{save_in, SinceMark, SinceMark.marks, SinceMark.goes_on, ImagesAreSealed}
 use Rattle.theory.specs.Machine.{Shape, view_m, refusal as closed_refusal, Machine as Closed}
-use Rattle.theory.specs.Image.{saves, Saving, Saving.begun, Saving.goes}
+use Rattle.theory.specs.Image.{saves, Saving}
 use Rattle.theory.specs.Closed.{closed}
 use Rattle.theory.proofs.Sealed.{seal_bound}
 use Rattle.theory.proofs.ClosedLaws.{closed_laws, size_positive}

@@ -1,28 +1,23 @@
 -- While an image is made: an unsaved page can only be read and has its words of MARK; of a saved one the buffer has them.
-use Rattle.std.proofs.Common.{◌≡◌, ℕ, zero, suc, ◌+◌, ◌-◌, ◌*◌, ◌/◌, ◌%◌, ◌<◌, ◌≤◌, min, max, Bool, true, false, cond, not, ◌&&◌, ◌||◌, eqb, ltb, leb, ◌≢◌, ◌⊎◌, List, [], ◌∷◌, sym, refl, ap, ◌∙◌, subst, inl, inr, le_refl, mul_assoc, div-lt_iff_lt-mul, le-div_iff_mul-le, arith}
-use Rattle.std.proofs.lemmas.Bool.{cases_eq, cases_lt, cases_Bool, both_ways, eq-eqb, ne_eqb, eqb-true, eqb-false, lt-ltb, le-ltb, le-leb, lt-leb, leb-true, ltb-true, and_from, and_parts, and_left, and_right, or_cases, or_left, or_right, not-false, cond-true, cond-false}
-use Rattle.theory.specs.Model.{Layout, upd}
-use Rattle.layouts.specs.declared.values.Value.{Value}
-use Rattle.layouts.specs.declared.values.Value.TheVariants.{Nil, Number, Reference}
-use Rattle.theory.specs.Collect.{Laws, St}
-use Rattle.theory.specs.Machine.{Shape, half, whole, Machine, view_m, refusal, at, is_busy, closed_is_idle, closed_is_imaging, lowest, Found, Found.none, Found.found}
-use Rattle.model.specs.declared.states.State.{State}
-use Rattle.model.specs.declared.states.Phase.{Phase}
+use Rattle.std.proofs.Common.{◌≡◌, ℕ, suc, ◌+◌, ◌-◌, ◌*◌, ◌/◌, ◌<◌, ◌≤◌, Bool, true, false, cond, not, ◌&&◌, eqb, ltb, leb, ◌≢◌, ◌⊎◌, List, [], ◌∷◌, sym, refl, ap, ◌∙◌, inl, inr, arith}
+use Rattle.std.proofs.lemmas.Bool.{cases_eq, cases_lt, cases_Bool, both_ways, eq-eqb, ne_eqb, eqb-true, lt-ltb, le-ltb, le-leb, lt-leb, leb-true, ltb-true, and_from, and_parts, and_left, and_right, or_cases, or_left, or_right, not-false, cond-true, cond-false}
+use Rattle.theory.specs.Model.{upd}
+use Rattle.theory.specs.Collect.{Laws}
+use Rattle.theory.specs.Machine.{Shape, half, Machine, view_m, refusal, is_busy, closed_is_imaging, lowest, Found, Found.none, Found.found}
 use Rattle.model.specs.declared.states.Phase.TheVariants.{Idle, Collecting, Imaging}
 use Rattle.model.specs.declared.calls.Call.{Call}
 use Rattle.model.specs.declared.calls.Call.TheVariants.{New, Load, Store, Copy, SetNumber, SetNil, Same, Tell, Count, Flip as Turn, Step, Take, Resolve, Mark, Save}
-use Rattle.model.specs.Outcomes.{Told, Told.sealed, Told.nothing}
-use Rattle.theory.specs.Buffer.{closed_head_word, closed_mark_words, closed_page_words, word_for, used_then}
-use Rattle.theory.specs.Steps.{call, act, denied, traps, did, place, slot_at, loaded, stored, save, saved, seal, mark_now, closed_used_page, resolved, resolved_save, closed_new_at, behind, scan_page, save_page, lowest_pend, step, stepped, lowest_behind, Outcome, fresh_m}
+use Rattle.theory.specs.Buffer.{closed_head_word, closed_page_words, word_for}
+use Rattle.theory.specs.Steps.{call, act, denied, traps, slot_at, loaded, stored, save, saved, seal, mark_now, closed_used_page, resolved, resolved_save, closed_new_at, behind, scan_page, save_page, lowest_pend, step, stepped, lowest_behind}
 use Rattle.theory.specs.Image.{used_at, image_word}
 use Rattle.theory.specs.Runs.{after, Quiet, marks}
-use Rattle.theory.proofs.Basics.{upd_same, upd_other, upd_at, page_lo, page_hi, div_mono, lowest_passes, lowest_fails}
+use Rattle.theory.proofs.Basics.{upd_other, upd_at, page_lo, page_hi, div_mono, lowest_passes, lowest_fails}
 use Rattle.theory.proofs.BodyNew.{in_range, out_range}
 use Rattle.theory.proofs.Cases.{load_ways, store_ways}
 use Rattle.theory.proofs.Refusals.{cond_zero}
 use Rattle.theory.proofs.Rights.{InTo, Rights}
 use Rattle.theory.proofs.Repeats.{page_in}
-use Rattle.theory.proofs.Sim.{busy_phase, image_phase, idle_is}
+use Rattle.theory.proofs.Sim.{busy_phase, image_phase}
 use Rattle.theory.proofs.Drains.{idle≢imaging, imaging≢}
 
 -- m₀ being the state at MARK

@@ -1,6 +1,6 @@
 -- Copying and scanning leave the new objects' low end.
-use Rattle.std.proofs.Common.{◌≡◌, ℕ, zero, suc, ◌+◌, ◌-◌, ◌*◌, ◌/◌, ◌%◌, min, Bool, true, false, cond, eqb, ltb, leb, sym, refl, ap, ◌∙◌}
-use Rattle.theory.specs.Model.{Layout, upd}
+use Rattle.std.proofs.Common.{◌≡◌, ℕ, zero, suc, ◌-◌, ◌/◌, ◌%◌, min, Bool, true, false, cond, eqb, ltb, refl, ◌∙◌}
+use Rattle.theory.specs.Model.{Layout}
 use Rattle.layouts.specs.declared.values.Value.{Value}
 use Rattle.layouts.specs.declared.values.Value.TheVariants.{Nil, Number, Reference}
 use Rattle.theory.specs.Collect.{St, copied, forward, rescan, scan_slot, scan_at, closed_head_at, scan_run, forward_reg, forward_regs}

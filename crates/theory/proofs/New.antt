@@ -1,12 +1,12 @@
 -- NEW, at any moment.
-use Rattle.std.proofs.Common.{◌≡◌, ℕ, zero, suc, ◌+◌, ◌-◌, ◌*◌, ◌/◌, ◌%◌, ◌<◌, ◌≤◌, Bool, true, false, cond, ◌&&◌, eqb, ltb, leb, ◌≢◌, ◌⊎◌, sym, refl, ap, ◌∙◌, subst, inl, inr, add-zero, arith}
-use Rattle.std.proofs.lemmas.Bool.{cases_eq, cases_lt, cases_Bool, both_ways}
+use Rattle.std.proofs.Common.{◌≡◌, ℕ, suc, ◌+◌, ◌<◌, ◌≤◌, Bool, true, false, cond, ◌&&◌, ltb, leb, ◌≢◌, ◌⊎◌, sym, refl, ap, ◌∙◌, inl, inr, add-zero, arith}
+use Rattle.std.proofs.lemmas.Bool.{cases_eq, cases_lt, cases_Bool}
 use Rattle.std.proofs.lemmas.Bool.Decides.{nat_tests}
-use Rattle.theory.specs.Model.{map_v, Layout, upd, blit, sum_to, weight}
+use Rattle.theory.specs.Model.{map_v, Layout, upd, sum_to, weight}
 use Rattle.layouts.specs.declared.values.Value.{Value}
 use Rattle.layouts.specs.declared.values.Value.TheVariants.{Nil, Number, Reference}
-use Rattle.theory.specs.Collect.{Laws, Heap, Flip, size, Reached, Clear, FlipOk, St, Pair, Alive, LooseInv, Grows, Adds, Places}
-use Rattle.theory.proofs.Basics.{upd_same, upd_other, upd_at, sum_same, weight_add, or_le}
+use Rattle.theory.specs.Collect.{Heap, Flip, size, Clear, FlipOk, St, Pair, Alive, LooseInv, Grows, Adds, Places}
+use Rattle.theory.proofs.Basics.{upd_same, upd_other, upd_at, sum_same, or_le}
 use Rattle.theory.proofs.Copy.{in_to, start_top, map_v_same, alive_more}
 
 -- the addresses from a up to b count as scanned

@@ -1,13 +1,10 @@
 -- A page scanned and opened, with the map of scanned words.
-use Rattle.std.proofs.Common.{◌≡◌, ℕ, zero, suc, ◌+◌, ◌-◌, ◌*◌, ◌/◌, ◌%◌, ◌<◌, ◌≤◌, min, max, Bool, true, false, cond, not, ◌&&◌, ◌||◌, eqb, ltb, leb, ◌≢◌, ◌⊎◌, sym, refl, ap, ◌∙◌, subst, inl, inr, le_refl, add-zero, arith}
-use Rattle.std.proofs.lemmas.Bool.{cases_eq, cases_lt, cases_Bool, both_ways, eq-eqb, ne_eqb, lt-ltb, le-ltb, ltb-true, ltb-false}
-use Rattle.theory.specs.Model.{map_v, Layout, upd, blit, sum_to, weight}
-use Rattle.layouts.specs.declared.values.Value.{Value}
-use Rattle.layouts.specs.declared.values.Value.TheVariants.{Nil, Number, Reference}
-use Rattle.theory.specs.Collect.{Laws, Heap, Flip, size, Reached, Clear, FlipOk, St, Pair, Alive, LooseInv, LooseSide, Grows, scan_run}
+use Rattle.std.proofs.Common.{◌≡◌, ℕ, ◌+◌, ◌*◌, ◌/◌, ◌<◌, ◌≤◌, min, max, true, false, ltb, ◌≢◌, ◌⊎◌, sym, ap, ◌∙◌, inl, inr, le_refl, arith}
+use Rattle.std.proofs.lemmas.Bool.{cases_eq, cases_lt, cases_Bool, both_ways, eq-eqb, ne_eqb, lt-ltb, le-ltb}
+use Rattle.theory.specs.Model.{Layout, upd}
+use Rattle.theory.specs.Collect.{Laws, Heap, Flip, FlipOk, St, Pair, LooseInv, LooseSide, Grows}
 use Rattle.theory.specs.Machine.{begins, ran_page, grant}
-use Rattle.theory.proofs.Basics.{upd_same, upd_other, upd_at, or_le, page_lo, page_hi, page_of}
-use Rattle.theory.proofs.Forward.{grows_refl, grows_trans}
+use Rattle.theory.proofs.Basics.{upd_other, upd_at, or_le, page_lo, page_hi, page_of}
 use Rattle.theory.proofs.Pages.{Points, Ran, run_keeps}
 use Rattle.theory.proofs.World.{Whole, Scans}
 

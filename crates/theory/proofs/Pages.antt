@@ -1,11 +1,9 @@
 -- Scanning a page.
-use Rattle.std.proofs.Common.{◌≡◌, ℕ, zero, suc, ◌+◌, ◌-◌, ◌*◌, ◌/◌, ◌%◌, ◌<◌, ◌≤◌, min, max, Bool, true, false, cond, ◌&&◌, eqb, ltb, leb, ◌≢◌, ◌⊎◌, sym, refl, ap, ◌∙◌, subst, inl, inr, le_refl, add-zero, arith}
-use Rattle.std.proofs.lemmas.Bool.{cases_eq, cases_lt, cases_Bool, both_ways, eq-eqb, ne_eqb, lt-ltb, le-ltb}
-use Rattle.theory.specs.Model.{map_v, Layout, upd, blit, sum_to, weight}
-use Rattle.layouts.specs.declared.values.Value.{Value}
-use Rattle.layouts.specs.declared.values.Value.TheVariants.{Nil, Number, Reference}
-use Rattle.theory.specs.Collect.{Laws, Heap, Flip, size, Reached, Clear, FlipOk, St, Pair, Alive, LooseInv, LooseSide, Grows, scan_slot, scan_at, closed_head_at, scan_run}
-use Rattle.theory.proofs.Basics.{upd_same, upd_other, upd_at, or_le}
+use Rattle.std.proofs.Common.{◌≡◌, ℕ, zero, suc, ◌+◌, ◌-◌, ◌<◌, ◌≤◌, min, max, true, false, ◌≢◌, ◌⊎◌, sym, refl, ap, ◌∙◌, inl, inr, le_refl, arith}
+use Rattle.std.proofs.lemmas.Bool.{cases_eq, cases_lt, eq-eqb, ne_eqb, lt-ltb, le-ltb}
+use Rattle.theory.specs.Model.{Layout}
+use Rattle.theory.specs.Collect.{Laws, Heap, Flip, size, FlipOk, St, Pair, LooseInv, LooseSide, Grows, scan_at, closed_head_at, scan_run}
+use Rattle.theory.proofs.Basics.{upd_other, upd_at, or_le}
 use Rattle.theory.proofs.Forward.{grows_refl, grows_trans}
 use Rattle.theory.proofs.Scan.{Scanned, scan_keeps, scan_head}
 

@@ -1,12 +1,12 @@
 -- The rounds find what is reached, and nothing else.
-use Rattle.std.proofs.Common.{◌≡◌, ℕ, zero, suc, ◌+◌, ◌-◌, ◌*◌, ◌<◌, ◌≤◌, Bool, true, false, cond, not, ◌&&◌, ◌||◌, eqb, ◌≢◌, ◌⊎◌, sym, refl, ap, ◌∙◌, subst, inl, inr, le_refl, arith}
-use Rattle.std.proofs.lemmas.Bool.{cases_eq, cases_lt, cases_Bool, both_ways, eqb-true, eq-eqb, or_cases, or_left, or_right, or_parts, and_parts, and_from, and_cases, not-true, not_from_false, false≢true}
+use Rattle.std.proofs.Common.{◌≡◌, ℕ, zero, suc, ◌+◌, ◌<◌, ◌≤◌, Bool, true, false, cond, not, ◌&&◌, ◌⊎◌, sym, refl, ap, ◌∙◌, inl, inr, le_refl, arith}
+use Rattle.std.proofs.lemmas.Bool.{cases_eq, cases_Bool, both_ways, eqb-true, eq-eqb, or_cases, or_left, or_right, and_parts, and_from, not-true, not_from_false, false≢true}
 use Rattle.theory.specs.Model.{Layout, sum_to, weight, upd}
 use Rattle.layouts.specs.declared.values.Value.{Value}
 use Rattle.layouts.specs.declared.values.Value.TheVariants.{Nil, Number, Reference}
-use Rattle.theory.specs.Collect.{Heap, Flip, size, Reached, Reached.root, Reached.step, FlipOk}
+use Rattle.theory.specs.Collect.{Flip, size, Reached, Reached.root, Reached.step, FlipOk}
 use Rattle.theory.specs.Reach.{any, closed_refers_to, within, reaches, closed_reached_words}
-use Rattle.theory.proofs.Basics.{upd_same, upd_other, weight_add, sum_mono, weight_mono, sum_same}
+use Rattle.theory.proofs.Basics.{upd_other, weight_add, sum_mono, weight_mono, sum_same}
 use Rattle.theory.proofs.Scan.{reached_here}
 
 pub any_from : (n : ℕ) (f : ℕ → Bool) (k : ℕ) → k < n → f k ≡ true → any n f ≡ true

@@ -1,14 +1,8 @@
 -- Both heaps refuse alike.
-use Rattle.std.proofs.Common.{◌≡◌, ℕ, zero, suc, ◌+◌, ◌-◌, ◌*◌, ◌/◌, ◌%◌, ◌<◌, ◌≤◌, min, max, Bool, true, false, cond, not, ◌&&◌, ◌||◌, eqb, ltb, leb, ◌≢◌, ◌⊎◌, sym, refl, ap, ◌∙◌, subst, ap₂, inl, inr, arith}
-use Rattle.std.proofs.lemmas.Bool.{cases_eq, cases_lt, cases_Bool, both_ways, ltb-true, ltb-false, or_parts, and_parts, not-false}
-use Rattle.theory.specs.Model.{Layout}
-use Rattle.layouts.specs.declared.values.Value.{Value}
-use Rattle.layouts.specs.declared.values.Value.TheVariants.{Nil, Number, Reference}
+use Rattle.std.proofs.Common.{◌≡◌, ℕ, suc, ◌+◌, ◌<◌, Bool, true, false, cond, not, ◌&&◌, ◌||◌, ltb, leb, sym, refl, ap, arith}
+use Rattle.std.proofs.lemmas.Bool.{ltb-true, or_parts, and_parts, not-false}
 use Rattle.theory.specs.Collect.{Laws, Flip}
-use Rattle.theory.specs.Machine.{Shape, half, whole, Machine, Never, View, view_m, view_a, closed_is_idle, closed_is_running, closed_is_waiting, is_hand, refs, head_of, refusal, bad, at}
-use Rattle.model.specs.declared.states.State.{State}
-use Rattle.model.specs.declared.states.Phase.{Phase}
-use Rattle.model.specs.declared.states.Phase.TheVariants.{Idle, Collecting}
+use Rattle.theory.specs.Machine.{Shape, Machine, Never, view_m, view_a, closed_is_running, refusal, bad, at}
 use Rattle.model.specs.declared.calls.Call.{Call}
 use Rattle.model.specs.declared.calls.Call.TheVariants.{New, Load, Store, Copy, SetNumber, SetNil, Same, Tell, Count, Flip as Turn, Step, Take, Resolve, Mark, Save}
 use Rattle.theory.proofs.World.{World, view_ref, view_slots, view_admits, view_full}

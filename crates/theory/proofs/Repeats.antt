@@ -1,28 +1,23 @@
 -- A call repeated next after the RESOLVE of its trap.
-use Rattle.std.proofs.Common.{◌≡◌, ℕ, zero, suc, ◌+◌, ◌-◌, ◌*◌, ◌/◌, ◌%◌, ◌<◌, ◌≤◌, min, max, Bool, true, false, cond, not, ◌&&◌, ◌||◌, eqb, ltb, leb, ◌≢◌, ◌⊎◌, List, [], ◌∷◌, sym, refl, ap, ◌∙◌, subst, inl, inr, le_refl, mul_assoc, div-lt_iff_lt-mul, le-div_iff_mul-le, arith}
-use Rattle.std.proofs.lemmas.Bool.{cases_eq, cases_lt, cases_Bool, both_ways, eq-eqb, ne_eqb, eqb-true, eqb-false, lt-ltb, le-leb, leb-false, ltb-false, and_from, and_parts, or_parts, not-false}
-use Rattle.theory.specs.Model.{map_v, Layout, upd}
-use Rattle.layouts.specs.declared.values.Value.{Value}
-use Rattle.layouts.specs.declared.values.Value.TheVariants.{Nil, Number, Reference}
-use Rattle.theory.specs.Collect.{Laws, Heap, Flip, St, Pair, LooseInv, size}
-use Rattle.theory.specs.Machine.{Shape, half, whole, Machine, Never, trapped, fine, refused, view_m, refusal, bad, at, head_of, refs, is_busy, closed_is_idle, closed_is_imaging, closed_is_running, Found, Found.none, Found.found, ran_page}
-use Rattle.model.specs.declared.states.State.{State}
-use Rattle.model.specs.declared.states.State.TheVariants.{Running, Waiting, InHand}
+use Rattle.std.proofs.Common.{◌≡◌, ℕ, suc, ◌+◌, ◌-◌, ◌*◌, ◌/◌, ◌<◌, ◌≤◌, min, Bool, true, false, not, ◌&&◌, ◌||◌, ltb, leb, ◌≢◌, ◌⊎◌, sym, refl, ap, ◌∙◌, subst, inl, inr, mul_assoc, div-lt_iff_lt-mul, le-div_iff_mul-le, arith}
+use Rattle.std.proofs.lemmas.Bool.{cases_eq, cases_lt, both_ways, eq-eqb, ne_eqb, eqb-true, eqb-false, lt-ltb, le-leb, leb-false, and_from, or_parts, not-false}
+use Rattle.theory.specs.Collect.{Laws}
+use Rattle.theory.specs.Machine.{Shape, half, Machine, trapped, refused, view_m, refusal, bad, at, head_of, refs, is_busy, closed_is_imaging, closed_is_running, ran_page}
+use Rattle.model.specs.declared.states.State.TheVariants.{Waiting}
 use Rattle.model.specs.declared.states.Phase.{Phase}
 use Rattle.model.specs.declared.states.Phase.TheVariants.{Idle, Collecting, Imaging}
 use Rattle.model.specs.declared.calls.Call.{Call}
-use Rattle.model.specs.declared.calls.Call.TheVariants.{Load, Store, New, Resolve}
-use Rattle.model.specs.declared.calls.Answer.{Answer}
-use Rattle.theory.specs.Steps.{call, act, denied, traps, did, slot_at, loaded, stored, resolved, resolved_save, closed_new_at, behind, scan_page, save_page, Outcome, addr_of}
-use Rattle.theory.specs.Runs.{after, Quiet, resolves, marks, Accesses, Accesses.loads, Accesses.stores, AccessRepeatsFrom}
-use Rattle.theory.proofs.Basics.{upd_same, upd_other, upd_at, page_lo, page_hi, aligned}
+use Rattle.model.specs.declared.calls.Call.TheVariants.{Resolve}
+use Rattle.theory.specs.Steps.{call, act, traps, slot_at, resolved, resolved_save, behind, Outcome, addr_of}
+use Rattle.theory.specs.Runs.{Accesses, Accesses.loads, Accesses.stores, AccessRepeatsFrom}
+use Rattle.theory.proofs.Basics.{upd_same, page_lo, aligned}
 use Rattle.theory.proofs.Cases.{load_ways, store_ways}
 use Rattle.theory.proofs.Refusals.{cond_zero, name_ok}
-use Rattle.theory.proofs.World.{Body, World, Busy, Rest, Phased}
-use Rattle.theory.proofs.Rights.{InTo, Rights, RightsOf, Good, good_call, good_after}
+use Rattle.theory.proofs.World.{Body, Phased}
+use Rattle.theory.proofs.Rights.{InTo, Rights, Good, good_call, good_after}
 use Rattle.theory.proofs.Copy.{start_top}
-use Rattle.theory.proofs.Sim.{holder, body_busy}
-use Rattle.theory.proofs.Standing.{StandsAt, Stands, stands_after}
+use Rattle.theory.proofs.Sim.{holder}
+use Rattle.theory.proofs.Standing.{Stands, stands_after}
 
 module _ (H : Shape) (laws : Laws H.lay) (pos : 0 < H.page) where
   abbrev P : ℕ

@@ -5,7 +5,6 @@ use Rattle.memory.specs.Memory.{Memory}
 use Rattle.memory.specs.declared.refusals.Refusal.{Refusal}
 use Rattle.memory.specs.declared.refusals.Refusal.TheVariants.{Size, Short, OtherImage, BadImage}
 use Rattle.layouts.specs.Layouts.{Rules}
-use Rattle.std.specs.declared.option.Option.TheVariants as Option
 use Rattle.model.specs.Images.{image_words}
 use Rattle.model.specs.Refusing.{refuse_if}
 use Rattle.model.specs.Restoring.{every_below, register_fits, restored, restore_refusal, is_of_this, is_written_well, is_made_of_objects}

@@ -1,27 +1,21 @@
 -- A sealed image is accepted, and restores the heap at its MARK.
-use Rattle.std.proofs.Common.{◌≡◌, ℕ, zero, suc, ◌+◌, ◌-◌, ◌*◌, ◌/◌, ◌%◌, ◌<◌, ◌≤◌, Bool, true, false, cond, not, ◌&&◌, ◌||◌, eqb, ltb, leb, ◌≢◌, ◌⊎◌, List, [], ◌∷◌, sym, refl, ap, ◌∙◌, subst, ap₂, inl, inr, le_refl, arith}
-use Rattle.std.proofs.lemmas.Bool.{cases_eq, cases_lt, cases_Bool, both_ways, eq-eqb, ne_eqb, eqb-true, lt-ltb, le-ltb, leb-true, ltb-true, le-leb, lt-leb, and_parts, and_from, and_right, or_cases, or_parts, or_left, or_right, not_from_true, not_from_false, cond-true, cond-false}
-use Rattle.theory.specs.Model.{map_v, Layout, upd}
+use Rattle.std.proofs.Common.{◌≡◌, ℕ, suc, ◌+◌, ◌-◌, ◌*◌, ◌/◌, ◌%◌, ◌<◌, ◌≤◌, true, cond, not, ◌&&◌, ◌||◌, eqb, ltb, leb, sym, refl, ap, ◌∙◌, subst, ap₂, inl, inr, le_refl, arith}
+use Rattle.std.proofs.lemmas.Bool.{cases_lt, cases_Bool, eq-eqb, ne_eqb, lt-ltb, le-ltb, leb-true, ltb-true, le-leb, and_from, and_right, or_cases, or_left, or_right, not_from_true, not_from_false, cond-true, cond-false}
+use Rattle.theory.specs.Model.{map_v}
 use Rattle.layouts.specs.declared.values.Value.{Value}
 use Rattle.layouts.specs.declared.values.Value.TheVariants.{Nil, Number, Reference}
-use Rattle.theory.specs.Collect.{Laws, Heap, Flip, St, Pair, Alive, LooseInv, size, Clear}
-use Rattle.theory.specs.Machine.{Shape, half, Machine, Never, view_m, refusal}
-use Rattle.model.specs.declared.states.Phase.{Phase}
-use Rattle.model.specs.declared.states.Phase.TheVariants.{Idle, Imaging}
-use Rattle.model.specs.declared.calls.Call.{Call}
-use Rattle.model.specs.declared.calls.Call.TheVariants.{Mark, Save}
-use Rattle.model.specs.Outcomes.{Told.sealed}
-use Rattle.theory.specs.Buffer.{closed_head_word, closed_kind_word, payload, word_for}
-use Rattle.theory.specs.Steps.{call}
-use Rattle.theory.specs.Image.{used_at, image_word, ImageSealedFrom}
-use Rattle.theory.specs.Restore.{every, row, closed_header_in, slots_in, restored, closed_is_header, closed_refers_well, closed_well_made, closed_well_written, reg_well, word_well, closed_restore_refusal, reg_from, SameHeap, ImageRestoresFrom}
-use Rattle.theory.specs.Runs.{after, Quiet, marks}
-use Rattle.theory.proofs.BodyNew.{in_range, out_range}
+use Rattle.theory.specs.Collect.{Laws, Heap, Flip, Alive}
+use Rattle.theory.specs.Machine.{Shape, half, Machine}
+use Rattle.model.specs.declared.states.Phase.TheVariants.{Idle}
+use Rattle.theory.specs.Buffer.{closed_head_word, closed_kind_word, payload}
+use Rattle.theory.specs.Image.{used_at, image_word}
+use Rattle.theory.specs.Restore.{every, closed_header_in, restored, closed_is_header, closed_refers_well, closed_well_made, closed_well_written, reg_well, word_well, closed_restore_refusal, reg_from, SameHeap, ImageRestoresFrom}
+use Rattle.theory.proofs.BodyNew.{in_range}
 use Rattle.theory.proofs.Calls.{load_agrees}
 use Rattle.theory.proofs.Copy.{start_top}
-use Rattle.theory.proofs.World.{Body, World, Rest, Phased}
+use Rattle.theory.proofs.World.{Body, Rest, Phased}
 use Rattle.theory.proofs.Rights.{Good, good_after}
-use Rattle.theory.proofs.Kept.{Holds, image_head}
+use Rattle.theory.proofs.Kept.{image_head}
 use Rattle.theory.proofs.Sealed.{image_sealed, mark_idle}
 use Rattle.theory.proofs.Again.{every_from}
 use Rattle.theory.proofs.Rows.{Row, first_edge, row_holds, header_holds, slots_hold}

@@ -1,25 +1,21 @@
 -- What the rights of to-space are, in each phase.
-use Rattle.std.proofs.Common.{◌≡◌, ℕ, zero, suc, ◌+◌, ◌-◌, ◌*◌, ◌/◌, ◌%◌, ◌<◌, ◌≤◌, min, max, Bool, true, false, cond, not, ◌&&◌, ◌||◌, eqb, ltb, leb, ◌≢◌, ◌⊎◌, List, [], ◌∷◌, sym, refl, ap, ◌∙◌, subst, inl, inr, le_refl, mul-le-mul_right, mul_assoc, lt_of_mul-lt-mul_right, le_of_mul-le-mul_right, arith}
-use Rattle.std.proofs.lemmas.Bool.{cases_eq, cases_lt, cases_Bool, both_ways, eq-eqb, ne_eqb, lt-ltb, le-leb, ltb-true, leb-true, and_from, and_parts, not-false, or_cases}
+use Rattle.std.proofs.Common.{◌≡◌, ℕ, ◌+◌, ◌-◌, ◌*◌, ◌<◌, ◌≤◌, min, Bool, true, false, not, ◌&&◌, ◌||◌, ltb, leb, ◌⊎◌, List, [], ◌∷◌, sym, refl, ◌∙◌, subst, inl, inr, le_refl, arith}
+use Rattle.std.proofs.lemmas.Bool.{cases_eq, cases_lt, both_ways, eq-eqb, ne_eqb, ltb-true, leb-true, and_parts, not-false, or_cases}
 use Rattle.std.proofs.lemmas.Bool.Decides.{nat_tests}
-use Rattle.theory.specs.Model.{map_v, Layout, upd, sum_to, weight}
-use Rattle.layouts.specs.declared.values.Value.{Value}
-use Rattle.layouts.specs.declared.values.Value.TheVariants.{Nil, Number, Reference}
-use Rattle.theory.specs.Collect.{Laws, Heap, Flip, FlipOk, St, Pair, LooseInv, size, forward_regs}
-use Rattle.theory.specs.Machine.{Shape, half, whole, Machine, Never, view_m, refusal, is_busy, closed_is_idle, closed_is_imaging, Found, Found.none, Found.found, ran_page, begins, grant}
-use Rattle.model.specs.declared.states.State.{State}
+use Rattle.theory.specs.Model.{upd}
+use Rattle.theory.specs.Collect.{Laws, Flip, St}
+use Rattle.theory.specs.Machine.{Shape, half, whole, Machine, Never, view_m, refusal, is_busy, closed_is_idle, closed_is_imaging, Found, Found.none, Found.found, ran_page, begins}
 use Rattle.model.specs.declared.states.Phase.{Phase}
 use Rattle.model.specs.declared.states.Phase.TheVariants.{Idle, Collecting, Imaging}
 use Rattle.model.specs.declared.calls.Call.{Call}
 use Rattle.model.specs.declared.calls.Call.TheVariants.{New, Load, Store, Copy, SetNumber, SetNil, Same, Tell, Count, Flip as Turn, Step, Take, Resolve, Mark, Save}
-use Rattle.model.specs.Outcomes.{Told}
-use Rattle.theory.specs.Steps.{call, n_call, act, denied, step, stepped, save, saved, seal, save_page, mark_now, lowest_pend, closed_used_page, resolved, resolved_save, closed_new_at, lowest_behind, behind, scan_page, finish, turned, swapped, used_now, Outcome, with_mut, stored}
-use Rattle.theory.proofs.Basics.{upd_same, upd_other, upd_at, lowest_passes, lowest_fails, lowest_least}
+use Rattle.theory.specs.Steps.{call, n_call, act, denied, step, stepped, save, saved, seal, save_page, mark_now, lowest_pend, closed_used_page, resolved, resolved_save, closed_new_at, lowest_behind, behind, scan_page, finish, turned, swapped, used_now, stored}
+use Rattle.theory.proofs.Basics.{upd_other, upd_at, lowest_passes, lowest_fails}
 use Rattle.theory.proofs.Cases.{load_ways, store_ways}
 use Rattle.theory.proofs.Refusals.{cond_zero}
 use Rattle.theory.proofs.BodyNew.{in_range}
-use Rattle.theory.proofs.World.{Body, World, Busy, Phased}
-use Rattle.theory.proofs.Shuts.{Shuts, shuts_run, shuts_regs}
+use Rattle.theory.proofs.World.{Body, World}
+use Rattle.theory.proofs.Shuts.{shuts_run, shuts_regs}
 use Rattle.theory.specs.Runs.{after}
 use Rattle.theory.proofs.Sim.{simulate, body_busy, world_scan, busy_phase, image_phase, idle_is}
 

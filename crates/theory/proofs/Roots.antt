@@ -1,11 +1,11 @@
 -- The registers, forwarded one after the other.
-use Rattle.std.proofs.Common.{◌≡◌, ℕ, zero, suc, ◌+◌, ◌-◌, ◌*◌, ◌/◌, ◌%◌, ◌<◌, ◌≤◌, Bool, true, false, cond, ◌≢◌, ◌⊎◌, sym, refl, ap, ◌∙◌, subst, inl, inr, le_refl, arith}
-use Rattle.std.proofs.lemmas.Bool.{cases_eq, cases_lt, cases_Bool, both_ways}
-use Rattle.theory.specs.Model.{map_v, Layout, upd, blit, sum_to, weight}
+use Rattle.std.proofs.Common.{◌≡◌, ℕ, zero, suc, ◌+◌, ◌<◌, ◌≤◌, sym, refl, ap, ◌∙◌, inl, inr, le_refl, arith}
+use Rattle.std.proofs.lemmas.Bool.{cases_eq}
+use Rattle.theory.specs.Model.{map_v, Layout}
 use Rattle.layouts.specs.declared.values.Value.{Value}
 use Rattle.layouts.specs.declared.values.Value.TheVariants.{Nil, Number, Reference}
-use Rattle.theory.specs.Collect.{Laws, Heap, Flip, size, Reached, Reached.root, Reached.step, FlipOk, St, Pair, Alive, LooseInv, Grows, forward, forward_reg, forward_regs, LooseSide}
-use Rattle.theory.proofs.Basics.{upd_same, upd_other, upd_at}
+use Rattle.theory.specs.Collect.{Laws, Heap, Flip, Reached.root, FlipOk, St, Pair, Alive, LooseInv, Grows, forward, forward_reg, forward_regs, LooseSide}
+use Rattle.theory.proofs.Basics.{upd_other, upd_at}
 use Rattle.theory.proofs.Copy.{map_v_same, alive_more}
 use Rattle.theory.proofs.Forward.{Forwarded, forward_keeps, grows_refl, grows_trans}
 

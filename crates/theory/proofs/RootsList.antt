@@ -1,12 +1,12 @@
 -- The registers vs a list, forwarded in order: the form that a `for` over a mutator's registers takes.
-use Rattle.std.proofs.Common.{◌≡◌, ℕ, zero, suc, ◌+◌, ◌<◌, ◌≤◌, Bool, true, false, cond, List, [], ◌∷◌, ◌++◌, map, sym, refl, ap, ◌∙◌, subst, ap₂, arith}
+use Rattle.std.proofs.Common.{◌≡◌, ℕ, ◌+◌, ◌≤◌, true, List, [], ◌∷◌, map, sym, refl, ap, ◌∙◌, ap₂}
 use Rattle.std.specs.List.{AllByRecursion as All}
-use Rattle.theory.specs.Model.{map_v, Layout, upd}
+use Rattle.theory.specs.Model.{map_v, Layout}
 use Rattle.layouts.specs.declared.values.Value.{Value}
 use Rattle.layouts.specs.declared.values.Value.TheVariants.{Nil, Number, Reference}
-use Rattle.theory.specs.Collect.{Laws, Heap, Flip, Reached, FlipOk, St, Pair, Alive, LooseInv, LooseSide, Grows, forward}
+use Rattle.theory.specs.Collect.{Laws, Heap, Flip, Reached, FlipOk, St, Pair, Alive, LooseInv, Grows, forward}
 use Rattle.theory.proofs.Copy.{map_v_same, alive_more}
-use Rattle.theory.proofs.Forward.{Forwarded, forward_keeps, grows_refl, grows_trans}
+use Rattle.theory.proofs.Forward.{forward_keeps, grows_refl, grows_trans}
 
 abbrev pub forward_value : Layout → ℕ → St → Value → St × Value
 forward_value L P s Nil = (s, Nil)

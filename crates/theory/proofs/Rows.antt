@@ -1,10 +1,10 @@
 -- Objects that cover a stretch of words without overlapping are whole objects in a row, as the check of RESTORE reads them.
-use Rattle.std.proofs.Common.{◌≡◌, ℕ, zero, suc, ◌+◌, ◌-◌, ◌*◌, ◌/◌, ◌%◌, ◌<◌, ◌≤◌, Bool, true, false, cond, not, ◌&&◌, ◌||◌, eqb, ltb, leb, ◌≢◌, ◌⊎◌, sym, refl, ap, ◌∙◌, subst, inl, inr, le_refl, arith}
-use Rattle.std.proofs.lemmas.Bool.{cases_eq, cases_lt, cases_Bool, both_ways, eq-eqb, ne_eqb, lt-ltb, le-ltb, le-leb, and_from, or_left, or_right, cond-true, cond-false}
+use Rattle.std.proofs.Common.{◌≡◌, ℕ, zero, suc, ◌+◌, ◌<◌, ◌≤◌, Bool, true, ◌&&◌, ◌||◌, eqb, ltb, leb, ◌≢◌, ◌⊎◌, sym, refl, ap, ◌∙◌, inl, inr, arith}
+use Rattle.std.proofs.lemmas.Bool.{cases_eq, cases_lt, eq-eqb, ne_eqb, lt-ltb, le-ltb, le-leb, and_from, or_left, or_right, cond-true, cond-false}
 use Rattle.theory.specs.Model.{Layout}
 use Rattle.layouts.specs.declared.values.Value.{Value}
 use Rattle.theory.specs.Collect.{Clear}
-use Rattle.theory.specs.Restore.{every, row, closed_header_in, slots_in}
+use Rattle.theory.specs.Restore.{row, closed_header_in, slots_in}
 use Rattle.theory.proofs.Again.{every_from}
 
 -- the objects In, object p of header hdr p at to p, make up the words from start to e

@@ -1,14 +1,14 @@
 -- Scanning one word keeps the invariant, with that address scanned.
-use Rattle.std.proofs.Common.{◌≡◌, ℕ, zero, suc, ◌+◌, ◌-◌, ◌*◌, ◌/◌, ◌%◌, ◌<◌, ◌≤◌, Bool, true, false, cond, ◌≢◌, ◌⊎◌, sym, refl, ap, ◌∙◌, subst, inl, inr, le_refl, arith}
-use Rattle.std.proofs.lemmas.Bool.{cases_eq, cases_lt, cases_Bool, both_ways}
-use Rattle.theory.specs.Model.{map_v, Layout, upd, blit, sum_to, weight}
+use Rattle.std.proofs.Common.{◌≡◌, ℕ, suc, ◌+◌, ◌<◌, ◌≤◌, Bool, true, false, ◌≢◌, sym, refl, ap, ◌∙◌, inl, inr, le_refl, arith}
+use Rattle.std.proofs.lemmas.Bool.{cases_eq}
+use Rattle.theory.specs.Model.{map_v, Layout, upd}
 use Rattle.layouts.specs.declared.values.Value.{Value}
 use Rattle.layouts.specs.declared.values.Value.TheVariants.{Nil, Number, Reference}
 use Rattle.layouts.specs.Layouts.{addressable}
-use Rattle.theory.specs.Collect.{Laws, Heap, Flip, size, Reached, Reached.root, Reached.step, Clear, FlipOk, St, Pair, Alive, LooseInv, Grows, Writes, Sets, forward, scan_slot, rescan, LooseSide}
-use Rattle.theory.proofs.Basics.{upd_same, upd_other, upd_at, or_le, sum_same, nil≢ref, num≢ref, ref_inj}
-use Rattle.theory.proofs.Copy.{near_map_v, in_to, start_top}
-use Rattle.theory.proofs.Forward.{Forwarded, forward_keeps, grows_refl, grows_trans}
+use Rattle.theory.specs.Collect.{Laws, Heap, Flip, Reached, Reached.root, Reached.step, FlipOk, St, Pair, Alive, LooseInv, Grows, Writes, Sets, forward, scan_slot, rescan, LooseSide}
+use Rattle.theory.proofs.Basics.{upd_same, upd_other, upd_at, nil≢ref, num≢ref, ref_inj}
+use Rattle.theory.proofs.Copy.{near_map_v}
+use Rattle.theory.proofs.Forward.{Forwarded, forward_keeps}
 use Rattle.theory.proofs.Write.{marked, write_keeps}
 
 pub record Scanned (L : Layout) (P : ℕ) (F : Flip) (A : Heap) (s : St) (g : Pair) (a : ℕ) (s' : St) : Type 0 where

@@ -1,24 +1,22 @@
 -- A sealed buffer holds the image of the state at its MARK; and sealing takes no more SAVEs than a half has pages.
-use Rattle.std.proofs.Common.{◌≡◌, ℕ, zero, suc, ◌+◌, ◌-◌, ◌*◌, ◌/◌, ◌%◌, ◌<◌, ◌≤◌, Bool, true, false, cond, not, ◌&&◌, ◌||◌, eqb, ltb, leb, ◌≢◌, ◌⊎◌, List, [], ◌∷◌, sym, refl, ap, ◌∙◌, subst, inl, inr, add-zero, arith}
+use Rattle.std.proofs.Common.{◌≡◌, ℕ, ◌+◌, ◌-◌, ◌*◌, ◌<◌, ◌≤◌, true, false, not, ltb, ◌≢◌, ◌⊎◌, List, sym, refl, ◌∙◌, subst, inl, inr, add-zero, arith}
 use Rattle.std.proofs.lemmas.Bool.{cases_eq, cases_lt, cases_Bool, both_ways, eq-eqb, ne_eqb}
-use Rattle.theory.specs.Model.{Layout, upd}
-use Rattle.layouts.specs.declared.values.Value.{Value}
-use Rattle.theory.specs.Collect.{Laws, St}
-use Rattle.theory.specs.Machine.{Shape, half, Machine, view_m, refusal, closed_is_idle, closed_is_imaging, Found, Found.none, Found.found}
-use Rattle.model.specs.declared.states.Phase.{Phase}
-use Rattle.model.specs.declared.states.Phase.TheVariants.{Idle, Collecting, Imaging}
+use Rattle.theory.specs.Model.{upd}
+use Rattle.theory.specs.Collect.{Laws}
+use Rattle.theory.specs.Machine.{Shape, half, Machine, view_m, refusal, closed_is_idle, Found, Found.none, Found.found}
+use Rattle.model.specs.declared.states.Phase.TheVariants.{Idle, Imaging}
 use Rattle.model.specs.declared.calls.Call.{Call}
 use Rattle.model.specs.declared.calls.Call.TheVariants.{New, Load, Store, Copy, SetNumber, SetNil, Same, Tell, Count, Flip as Turn, Step, Take, Resolve, Mark, Save}
-use Rattle.model.specs.Outcomes.{Told, Told.sealed, Told.nothing}
-use Rattle.theory.specs.Steps.{call, act, denied, save, saved, seal, mark_now, save_page, lowest_pend, Outcome}
-use Rattle.theory.specs.Image.{image_word, ImageSealedFrom, saves, Saving, Saving.begun, Saving.goes, SealBound}
+use Rattle.model.specs.Outcomes.{Told.sealed, Told.nothing}
+use Rattle.theory.specs.Steps.{call, save, saved, save_page, lowest_pend}
+use Rattle.theory.specs.Image.{ImageSealedFrom, saves, Saving, Saving.begun, Saving.goes, SealBound}
 use Rattle.theory.specs.Runs.{after, Quiet, marks}
-use Rattle.theory.proofs.Basics.{upd_same, upd_other, upd_at, lowest_passes, lowest_fails, lowest_least}
+use Rattle.theory.proofs.Basics.{upd_other, upd_at, lowest_passes, lowest_least}
 use Rattle.theory.proofs.Refusals.{cond_zero}
 use Rattle.theory.proofs.Rights.{Rights, RightsOf, Good, good_after}
 use Rattle.theory.proofs.Sim.{idle_is}
 use Rattle.theory.proofs.Drains.{Drains, drains_call, idle≢imaging, imaging≢}
-use Rattle.theory.proofs.Kept.{Kept, Holds, Imaged, kept_mark, imaged_call, imaged_after, held_after}
+use Rattle.theory.proofs.Kept.{Holds, Imaged, kept_mark, imaged_call, imaged_after, held_after}
 
 module _ (H : Shape) (laws : Laws H.lay) (pos : 0 < H.page) where
   pub mark_idle : (m : Machine) (n : ℕ) → refusal (view_m H m) (Mark n) ≡ 0 → m.phase ≡ Idle

@@ -1,7 +1,7 @@
 -- What copying and scanning do to the rights: pages at or above the copy end, and those wholly below where it was, keep theirs.
-use Rattle.std.proofs.Common.{◌≡◌, ℕ, zero, suc, ◌+◌, ◌-◌, ◌*◌, ◌/◌, ◌%◌, ◌<◌, ◌≤◌, min, Bool, true, false, cond, ◌&&◌, eqb, ltb, leb, ◌⊎◌, sym, refl, ap, ◌∙◌, inl, inr, le_refl, div-lt_iff_lt-mul, le-div_iff_mul-le, arith}
+use Rattle.std.proofs.Common.{◌≡◌, ℕ, zero, suc, ◌+◌, ◌-◌, ◌*◌, ◌/◌, ◌%◌, ◌<◌, ◌≤◌, min, Bool, true, false, cond, eqb, ltb, ◌⊎◌, refl, ◌∙◌, inl, inr, le_refl, div-lt_iff_lt-mul, le-div_iff_mul-le, arith}
 use Rattle.std.proofs.lemmas.Bool.Decides.{nat_tests}
-use Rattle.theory.specs.Model.{Layout, upd}
+use Rattle.theory.specs.Model.{Layout}
 use Rattle.layouts.specs.declared.values.Value.{Value}
 use Rattle.layouts.specs.declared.values.Value.TheVariants.{Nil, Number, Reference}
 use Rattle.theory.specs.Collect.{St, shut, copied, forward, rescan, scan_slot, scan_at, closed_head_at, scan_run, forward_reg, forward_regs}

@@ -1,27 +1,24 @@
 -- Each call agrees with the never-moving heap.
-use Rattle.std.proofs.Common.{◌≡◌, ℕ, zero, suc, ◌+◌, ◌-◌, ◌*◌, ◌/◌, ◌%◌, ◌<◌, ◌≤◌, min, max, Bool, true, false, cond, not, ◌&&◌, ◌||◌, eqb, ltb, leb, ◌≢◌, ◌⊎◌, List, [], ◌∷◌, sym, refl, ap, ◌∙◌, subst, ap₂, inl, inr, le_refl, add-zero, mul_assoc, lt_of_mul-lt-mul_right, le_of_mul-le-mul_right, arith}
-use mathlib.Core.Path.{fun_ext}
-use Rattle.std.proofs.lemmas.Bool.{cases_eq, cases_lt, cases_Bool, both_ways, eq-eqb, ne_eqb, lt-ltb, le-ltb, ltb-true, ltb-false, leb-true, leb-false, and_parts, and_from, le-leb, or_parts, not-false, eqb-true, eqb-false}
-use Rattle.theory.specs.Model.{map_v, Layout, upd, sum_to, weight}
+use Rattle.std.proofs.Common.{◌≡◌, ℕ, zero, suc, ◌+◌, ◌-◌, ◌*◌, ◌/◌, ◌<◌, ◌≤◌, min, Bool, true, false, cond, not, ◌&&◌, ◌||◌, eqb, ltb, leb, ◌≢◌, sym, refl, ap, ◌∙◌, subst, inl, inr, mul_assoc, lt_of_mul-lt-mul_right, le_of_mul-le-mul_right, arith}
+use Rattle.std.proofs.lemmas.Bool.{cases_eq, cases_lt, both_ways, eq-eqb, ne_eqb, lt-ltb, ltb-true, ltb-false, leb-true, leb-false, and_parts, and_from, le-leb, or_parts, not-false}
+use Rattle.theory.specs.Model.{map_v, upd, sum_to}
 use Rattle.layouts.specs.declared.values.Value.{Value}
 use Rattle.layouts.specs.declared.values.Value.TheVariants.{Nil, Number, Reference}
-use Rattle.theory.specs.Collect.{Laws, Heap, Flip, FlipOk, St, Pair, Alive, LooseInv, LooseSide}
-use Rattle.theory.specs.Reach.{closed_reached_words}
-use Rattle.theory.specs.Machine.{fault, Shape, half, whole, Found, Found.none, Found.found, refused, trapped, fine, says, number, Machine, Never, at, view_m, view_a, refusal, bad, head_of, refs, closed_is_idle, is_busy, closed_is_imaging, is_hand, closed_is_running, lowest, ran_page, grant}
+use Rattle.theory.specs.Collect.{Laws, Flip, St, Pair, Alive}
+use Rattle.theory.specs.Machine.{fault, Shape, half, whole, Found, Found.none, Found.found, refused, says, number, Machine, Never, at, view_m, view_a, refusal, bad, head_of, refs, closed_is_idle, is_busy, closed_is_imaging, closed_is_running}
 use Rattle.model.specs.declared.states.State.{State}
 use Rattle.model.specs.declared.states.State.TheVariants.{Running, Waiting, InHand}
 use Rattle.model.specs.declared.states.Phase.{Phase}
 use Rattle.model.specs.declared.states.Phase.TheVariants.{Idle, Collecting, Imaging}
 use Rattle.model.specs.declared.calls.Call.{Call}
 use Rattle.model.specs.declared.calls.Call.TheVariants.{New, Load, Store, Copy, SetNumber, SetNil, Same, Tell, Count, Flip as Turn, Step, Take, Resolve, Mark, Save}
-use Rattle.model.specs.declared.calls.Answer.{Answer}
-use Rattle.model.specs.Outcomes.{Told, Told.nothing, Told.trap, Told.ended, Told.sealed}
+use Rattle.model.specs.Outcomes.{Told.nothing, Told.trap, Told.ended}
 use Rattle.theory.specs.Buffer.{closed_mark_words, closed_page_words}
-use Rattle.theory.specs.Steps.{Outcome, addr_of, closed_same_v, closed_kind_of, more, with_reg, with_st, with_scan, with_mut, did, traps, place, write, behind, lowest_behind, scan_page, finish, used_now, swapped, turned, stepped, step, closed_page_of, resolved, resolved_save, closed_used_page, with_image, mark_now, save_page, lowest_pend, saved, save, hand_back, denied, n_denied, n_phase, n_save, closed_new_at, act, call, Reply, reply, n_reg, n_heap, n_mut, append, assign, n_end, who, n_act, n_told, n_call, scanned_all, scanned_on, copied_since}
-use Rattle.theory.proofs.Basics.{upd_same, upd_other, upd_at, or_le, page_lo, page_hi, page_of, whole_covers, whole_fits, halves_apart, half_within, aligned, lowest_passes, lowest_fails, sum_raise, scanned_sum}
+use Rattle.theory.specs.Steps.{Outcome, closed_same_v, closed_kind_of, more, with_reg, with_st, with_mut, did, traps, write, behind, lowest_behind, scan_page, finish, used_now, swapped, turned, stepped, step, closed_page_of, resolved, resolved_save, closed_used_page, with_image, mark_now, save_page, lowest_pend, saved, save, hand_back, denied, n_denied, n_phase, closed_new_at, act, call, Reply, n_reg, n_heap, n_mut, assign, n_end, who, n_act, n_told, n_call, scanned_all, scanned_on, copied_since}
+use Rattle.theory.proofs.Basics.{upd_same, upd_other, or_le, whole_covers, whole_fits, halves_apart, half_within, aligned, lowest_passes, lowest_fails, sum_raise, scanned_sum}
 use Rattle.theory.proofs.Copy.{start_top}
-use Rattle.theory.proofs.Calls.{same_agrees, to_inj}
-use Rattle.theory.proofs.World.{Body, World, Rest, Busy, Phased, refs_map_v, any_map_v, head_same}
+use Rattle.theory.proofs.Calls.{to_inj}
+use Rattle.theory.proofs.World.{Body, World, Rest, Phased, any_map_v}
 use Rattle.theory.proofs.Refusals.{cond_zero, name_ok, refuse_alike}
 use Rattle.theory.proofs.Bodies.{body_reg, body_load, body_store, body_calm}
 use Rattle.theory.proofs.BodyNew.{body_new}

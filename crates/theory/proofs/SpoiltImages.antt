@@ -2,9 +2,7 @@
 use Rattle.std.proofs.Common.{◌≡◌, ℕ, ◌<◌, List, [], ◌∷◌, sym, refl, ◌∙◌, arith}
 use Rattle.memory.specs.declared.refusals.Refusal.TheVariants.{Outside, Slot}
 use Rattle.model.specs.declared.calls.Answer.{Answer}
-use Rattle.model.specs.declared.calls.Answer.TheVariants as Answer
 use Rattle.model.specs.declared.calls.Call.{Call}
-use Rattle.model.specs.declared.calls.Call.TheVariants as Call
 use Rattle.model.specs.declared.calls.Kind.TheVariants as Kind
 use Rattle.model.specs.Forwarding.{roots_forwarded}
 use Rattle.model.specs.Scanning.{lowest}

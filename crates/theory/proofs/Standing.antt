@@ -1,18 +1,17 @@
 -- A mutator that waits on a page, or whose fault is in hand, keeps its registers until its RESOLVE; no FLIP is accepted meanwhile.
-use Rattle.std.proofs.Common.{◌≡◌, ℕ, zero, suc, ◌+◌, ◌-◌, ◌*◌, ◌/◌, ◌%◌, ◌<◌, ◌≤◌, min, max, Bool, true, false, cond, not, ◌&&◌, ◌||◌, eqb, ltb, leb, ◌≢◌, ◌⊎◌, List, [], ◌∷◌, sym, refl, ap, ◌∙◌, subst, inl, inr, arith}
-use Rattle.std.proofs.lemmas.Bool.{cases_eq, cases_lt, cases_Bool, both_ways, eq-eqb, ne_eqb, eqb-true, and_parts, or_parts, not-false, not-true, and_cases}
-use Rattle.theory.specs.Model.{Layout, upd}
+use Rattle.std.proofs.Common.{◌≡◌, ℕ, suc, ◌+◌, ◌-◌, ◌<◌, Bool, true, false, not, ◌&&◌, ◌||◌, eqb, ltb, ◌≢◌, ◌⊎◌, List, [], ◌∷◌, sym, refl, ap, ◌∙◌, inl, inr, arith}
+use Rattle.std.proofs.lemmas.Bool.{cases_eq, cases_Bool, both_ways, eq-eqb, ne_eqb, eqb-true, and_parts, or_parts, not-false}
+use Rattle.theory.specs.Model.{upd}
 use Rattle.layouts.specs.declared.values.Value.{Value}
-use Rattle.layouts.specs.declared.values.Value.TheVariants.{Nil, Number, Reference}
-use Rattle.theory.specs.Collect.{Laws}
-use Rattle.theory.specs.Machine.{Shape, half, Machine, view_m, refusal, bad, at, is_busy, closed_is_idle, closed_is_imaging, closed_is_running, closed_is_waiting, is_hand, Found, Found.none, Found.found}
+use Rattle.layouts.specs.declared.values.Value.TheVariants.{Reference}
+use Rattle.theory.specs.Machine.{Shape, Machine, view_m, refusal, bad, at, closed_is_idle, closed_is_imaging, closed_is_running, is_hand, Found, Found.none, Found.found}
 use Rattle.model.specs.declared.states.State.{State}
 use Rattle.model.specs.declared.states.State.TheVariants.{Running, Waiting, InHand}
 use Rattle.model.specs.declared.calls.Call.{Call}
 use Rattle.model.specs.declared.calls.Call.TheVariants.{New, Load, Store, Copy, SetNumber, SetNil, Same, Tell, Count, Flip as Turn, Step, Take, Resolve, Mark, Save}
-use Rattle.theory.specs.Steps.{call, act, denied, hand_back, step, stepped, save, saved, save_page, lowest_pend, resolved, resolved_save, closed_new_at, lowest_behind, behind, scan_page, closed_page_of, Outcome}
+use Rattle.theory.specs.Steps.{call, act, denied, hand_back, step, stepped, save, saved, save_page, lowest_pend, resolved, resolved_save, closed_new_at, lowest_behind, scan_page, closed_page_of}
 use Rattle.theory.specs.Runs.{after, Quiet, resolves}
-use Rattle.theory.proofs.Basics.{upd_same, upd_other, upd_at}
+use Rattle.theory.proofs.Basics.{upd_other, upd_at}
 use Rattle.theory.proofs.Cases.{load_ways, store_ways}
 use Rattle.theory.proofs.Refusals.{cond_zero, name_ok}
 

@@ -1,26 +1,21 @@
 -- A collection ends no later than at the STEP with the number of the pages that the reached words take:
 -- each STEP that does not end leaves the pages up to its own scanned to their ends for good.
-use Rattle.std.proofs.Common.{◌≡◌, ℕ, zero, suc, ◌+◌, ◌-◌, ◌*◌, ◌/◌, ◌<◌, ◌≤◌, min, max, Bool, true, false, cond, not, ◌&&◌, ◌||◌, eqb, ltb, leb, ◌≢◌, ◌⊎◌, sym, refl, ap, ◌∙◌, subst, inl, inr, le_refl, add-zero, mul-le-mul_right, mul_assoc, lt_of_mul-lt-mul_right, le-div_iff_mul-le, le_of_mul-le-mul_right, arith}
-use Rattle.std.proofs.lemmas.Bool.{cases_eq, cases_lt, cases_Bool, both_ways, eq-eqb, ne_eqb, lt-ltb, le-leb, and_from, and_parts, not-false}
-use Rattle.theory.specs.Model.{map_v, Layout, upd, sum_to, weight}
-use Rattle.layouts.specs.declared.values.Value.{Value}
-use Rattle.layouts.specs.declared.values.Value.TheVariants.{Nil, Number, Reference}
-use Rattle.theory.specs.Collect.{Laws, Heap, Flip, FlipOk, Reached, St, Pair, LooseInv, size}
-use Rattle.theory.specs.Reach.{closed_reached_words, reaches}
-use Rattle.theory.specs.Machine.{Shape, half, Machine, Never, view_m, refusal, is_busy, closed_is_idle, closed_is_imaging, Found, Found.none, Found.found, ran_page}
-use Rattle.model.specs.declared.states.State.{State}
-use Rattle.model.specs.declared.states.Phase.{Phase}
-use Rattle.model.specs.declared.states.Phase.TheVariants.{Idle, Collecting, Imaging}
+use Rattle.std.proofs.Common.{◌≡◌, ℕ, suc, ◌+◌, ◌-◌, ◌*◌, ◌<◌, ◌≤◌, min, max, Bool, true, false, ◌&&◌, ltb, leb, ◌⊎◌, sym, refl, ap, subst, inl, inr, le_refl, add-zero, mul-le-mul_right, mul_assoc, le-div_iff_mul-le, arith}
+use Rattle.std.proofs.lemmas.Bool.{cases_eq, cases_lt, both_ways, eq-eqb, ne_eqb, lt-ltb, le-leb, and_from, and_parts}
+use Rattle.theory.specs.Model.{weight}
+use Rattle.theory.specs.Collect.{Laws, Flip, size}
+use Rattle.theory.specs.Reach.{reaches}
+use Rattle.theory.specs.Machine.{Shape, half, Machine, Never, view_m, refusal, is_busy, closed_is_imaging, Found, Found.none, Found.found, ran_page}
+use Rattle.model.specs.declared.states.Phase.TheVariants.{Collecting}
 use Rattle.model.specs.declared.calls.Call.{Call}
 use Rattle.model.specs.declared.calls.Call.TheVariants.{New, Load, Store, Copy, SetNumber, SetNil, Same, Tell, Count, Flip as Turn, Step, Take, Resolve, Mark, Save}
-use Rattle.model.specs.Outcomes.{Told}
-use Rattle.theory.specs.Steps.{call, n_call, act, denied, step, stepped, resolved, resolved_save, closed_new_at, lowest_behind, behind, scan_page, finish, Outcome}
+use Rattle.theory.specs.Steps.{call, act, denied, step, stepped, resolved, resolved_save, closed_new_at, lowest_behind, behind, scan_page}
 use Rattle.theory.specs.Bounds.{steps, SteppingFrom, SteppingFrom.flips, SteppingFrom.goes, closed_pages_for, StepBoundFrom}
-use Rattle.theory.proofs.Basics.{upd_same, upd_other, upd_at, lowest_passes, lowest_fails, lowest_least, sum_mono, weight_mono}
+use Rattle.theory.proofs.Basics.{upd_same, upd_other, upd_at, lowest_passes, lowest_least, sum_mono, weight_mono}
 use Rattle.theory.proofs.Reach.{reaches_all}
 use Rattle.theory.proofs.Cases.{load_ways, store_ways}
 use Rattle.theory.proofs.Refusals.{cond_zero}
-use Rattle.theory.proofs.World.{Body, World, Busy, Phased}
+use Rattle.theory.proofs.World.{World}
 use Rattle.theory.proofs.BodyScan.{scan_facts}
 use Rattle.theory.proofs.Sim.{simulate, behind_is, body_busy, world_scan}
 use Rattle.theory.proofs.Collects.{SimOf}

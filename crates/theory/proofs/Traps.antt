@@ -1,17 +1,16 @@
 -- When a call traps, and where.
-use Rattle.std.proofs.Common.{◌≡◌, ℕ, zero, suc, ◌+◌, ◌-◌, ◌*◌, ◌/◌, ◌<◌, ◌≤◌, Bool, true, false, cond, not, ◌&&◌, ◌||◌, eqb, ltb, leb, ◌≢◌, ◌⊎◌, List, [], ◌∷◌, sym, refl, ap, ◌∙◌, subst, inl, inr, arith}
+use Rattle.std.proofs.Common.{◌≡◌, ℕ, ◌+◌, ◌*◌, ◌/◌, ◌<◌, ◌≤◌, Bool, true, false, ◌&&◌, ◌≢◌, sym, refl, ap, subst, inl, inr, arith}
 use Rattle.std.proofs.lemmas.Bool.{cases_lt, cases_Bool, eqb-true}
 use Rattle.layouts.specs.declared.values.Value.{Value}
 use Rattle.layouts.specs.declared.values.Value.TheVariants.{Nil, Number, Reference}
 use Rattle.theory.specs.Collect.{Laws}
-use Rattle.theory.specs.Machine.{Shape, half, Machine, refused, trapped, fine, says, number, view_m, refusal, at, head_of, refs, is_busy, closed_is_imaging, Found, Found.none, Found.found}
+use Rattle.theory.specs.Machine.{Shape, Machine, trapped, fine, at, head_of, refs, is_busy, closed_is_imaging, Found, Found.none, Found.found}
 use Rattle.model.specs.declared.states.Phase.{Phase}
 use Rattle.model.specs.declared.states.Phase.TheVariants.{Idle, Collecting, Imaging}
 use Rattle.model.specs.declared.calls.Call.{Call}
 use Rattle.model.specs.declared.calls.Call.TheVariants.{New, Load, Store, Copy, SetNumber, SetNil, Same, Tell, Count, Flip as Turn, Step, Take, Resolve, Mark, Save}
-use Rattle.model.specs.declared.calls.Answer.{Answer}
-use Rattle.theory.specs.Steps.{Outcome, call, act, addr_of, slot_at, closed_kind_of, step, stepped, save, saved, save_page, lowest_pend, lowest_behind, scan_page, resolved, resolved_save, behind}
-use Rattle.theory.specs.Runs.{after, Accesses, Accesses.loads, Accesses.stores, TrapsIn, TrapsWhenFrom}
+use Rattle.theory.specs.Steps.{call, act, addr_of, slot_at, closed_kind_of, step, stepped, save, saved, save_page, lowest_pend, lowest_behind, scan_page, resolved, resolved_save, behind}
+use Rattle.theory.specs.Runs.{Accesses, Accesses.loads, Accesses.stores, TrapsIn, TrapsWhenFrom}
 use Rattle.theory.proofs.Cases.{load_ways}
 use Rattle.theory.proofs.Copy.{start_top}
 use Rattle.theory.proofs.NewRepeats.{new_edge}

@@ -1,20 +1,15 @@
 -- The machine and the never-moving heap, paired.
-use Rattle.std.proofs.Common.{◌≡◌, ℕ, zero, suc, ◌+◌, ◌-◌, ◌*◌, ◌/◌, ◌%◌, ◌<◌, ◌≤◌, min, max, Bool, true, false, cond, not, ◌&&◌, ◌||◌, eqb, ltb, leb, ◌≢◌, ◌⊎◌, sym, refl, ap, ◌∙◌, subst, inl, inr, le_refl, add-zero, arith}
-use Rattle.std.proofs.lemmas.Bool.{cases_eq, cases_lt, cases_Bool, both_ways, eq-eqb, ne_eqb, lt-ltb, le-ltb, ltb-true, ltb-false}
+use Rattle.std.proofs.Common.{◌≡◌, ℕ, ◌+◌, ◌-◌, ◌*◌, ◌/◌, ◌<◌, ◌≤◌, max, true, cond, ltb, ◌⊎◌, refl, ap, ◌∙◌, arith}
 use Rattle.std.proofs.lemmas.Bool.Decides.{nat_tests}
-use Rattle.theory.specs.Model.{map_v, Layout, upd, blit, sum_to, weight}
+use Rattle.theory.specs.Model.{map_v, Layout}
 use Rattle.layouts.specs.declared.values.Value.{Value}
 use Rattle.layouts.specs.declared.values.Value.TheVariants.{Nil, Number, Reference}
-use Rattle.theory.specs.Collect.{Laws, Heap, Flip, size, Reached, Clear, FlipOk, St, Pair, Alive, LooseInv, LooseSide, Grows, scan_slot, scan_at, closed_head_at, scan_run, forward_regs}
+use Rattle.theory.specs.Collect.{Laws, Heap, Flip, size, Reached, FlipOk, St, Pair, Alive, LooseInv, LooseSide}
 use Rattle.theory.specs.Reach.{closed_reached_words}
-use Rattle.theory.specs.Machine.{Shape, half, whole, Machine, Never, View, view_m, view_a, is_busy, refs, head_of}
-use Rattle.model.specs.declared.states.State.{State}
+use Rattle.theory.specs.Machine.{Shape, half, whole, Machine, Never, view_m, view_a, is_busy, refs, head_of}
 use Rattle.model.specs.declared.states.Phase.{Phase}
 use Rattle.model.specs.declared.states.Phase.TheVariants.{Idle, Collecting, Imaging}
-use Rattle.theory.proofs.Basics.{upd_same, upd_other, upd_at, or_le, page_lo, page_hi, page_of}
-use Rattle.theory.proofs.Forward.{grows_refl, grows_trans}
 use Rattle.theory.proofs.Flip.{AllDone}
-use Rattle.theory.proofs.Pages.{Points, Ran, run_keeps}
 
 -- no copied object reaches over x
 pub record Whole (L : Layout) (F : Flip) (A : Heap) (s : St) (g : Pair) (x : ℕ) : Type 0 where

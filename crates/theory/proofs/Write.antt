@@ -1,12 +1,12 @@
 -- Writing a slot of a paired object: a scanned word, or a STORE.
-use Rattle.std.proofs.Common.{◌≡◌, ℕ, zero, suc, ◌+◌, ◌-◌, ◌*◌, ◌/◌, ◌%◌, ◌<◌, ◌≤◌, Bool, true, false, cond, eqb, ltb, leb, ◌≢◌, ◌⊎◌, sym, refl, ap, ◌∙◌, subst, inl, inr, add-zero, arith}
-use Rattle.std.proofs.lemmas.Bool.{eq-eqb, ne_eqb, cases_eq, cases_lt, cases_Bool, both_ways}
-use Rattle.theory.specs.Model.{map_v, Layout, upd, blit, sum_to, weight}
+use Rattle.std.proofs.Common.{◌≡◌, ℕ, suc, ◌+◌, ◌<◌, ◌≤◌, Bool, true, false, cond, ◌≢◌, ◌⊎◌, sym, ap, ◌∙◌, inl, inr, arith}
+use Rattle.std.proofs.lemmas.Bool.{cases_eq, both_ways}
+use Rattle.theory.specs.Model.{map_v, Layout, upd, sum_to, weight}
 use Rattle.layouts.specs.declared.values.Value.{Value}
-use Rattle.layouts.specs.declared.values.Value.TheVariants.{Nil, Number, Reference}
-use Rattle.theory.specs.Collect.{Laws, Heap, Flip, size, Reached, Clear, FlipOk, St, Pair, Alive, LooseInv, Grows, Writes, Sets}
-use Rattle.theory.proofs.Basics.{upd_same, upd_other, upd_at, or_le, sum_same}
-use Rattle.theory.proofs.Copy.{in_to, start_top}
+use Rattle.layouts.specs.declared.values.Value.TheVariants.{Reference}
+use Rattle.theory.specs.Collect.{Heap, Flip, size, FlipOk, St, Pair, Alive, LooseInv, Writes, Sets}
+use Rattle.theory.proofs.Basics.{upd_other, upd_at, sum_same}
+use Rattle.theory.proofs.Copy.{in_to}
 
 -- the pairing with address a scanned
 abbrev pub marked : Pair → ℕ → Pair

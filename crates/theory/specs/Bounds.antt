@@ -1,7 +1,6 @@
 -- How long a collection may last.
-use Rattle.std.specs.Prelude.{◌≡◌, ℕ, zero, suc, ◌+◌, ◌-◌, ◌*◌, ◌/◌, ◌<◌, ◌≤◌, min, max}
+use Rattle.std.specs.Prelude.{◌≡◌, ℕ, ◌+◌, ◌-◌, ◌/◌, ◌<◌, max}
 use Rattle.theory.specs.Machine.{Shape, Machine, Never, view_m, refusal}
-use Rattle.model.specs.declared.states.Phase.{Phase}
 use Rattle.model.specs.declared.states.Phase.TheVariants.{Collecting}
 use Rattle.model.specs.declared.calls.Call.{Call}
 use Rattle.model.specs.declared.calls.Call.TheVariants.{New, Load, Store, Copy, SetNumber, SetNil, Same, Tell, Count, Flip as Turn, Step, Take, Resolve, Mark, Save}

@@ -1,8 +1,6 @@
 -- What MARK, SAVE and RESOLVE write into the image's buffer.
-use Rattle.std.specs.Prelude.{◌≡◌, ℕ, zero, suc, ◌+◌, ◌-◌, ◌*◌, ◌/◌, ◌%◌, ◌<◌, ◌≤◌, Bool, true, false, cond, not, ◌&&◌, ◌||◌, ◌==◌, nat_le, nat_lt}
-use Rattle.theory.specs.Model.{Layout, upd}
+use Rattle.std.specs.Prelude.{ℕ, ◌+◌, ◌-◌, ◌*◌, ◌/◌, ◌%◌, Bool, cond, ◌&&◌, ◌||◌, ◌==◌, nat_le, nat_lt}
 use Rattle.layouts.specs.declared.values.Value.{Value}
-use Rattle.layouts.specs.declared.values.Value.TheVariants.{Nil, Number, Reference}
 use Rattle.model.specs.Images.{kind_number, payload as payload_of}
 use Rattle.theory.specs.Machine.{Shape, half, Machine}
 

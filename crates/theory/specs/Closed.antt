@@ -8,7 +8,7 @@ use Rattle.model.specs.Outcomes.{Machine}
 use Rattle.model.specs.Reaching.{object_at, slot_at}
 use Rattle.model.specs.Never.{Never}
 use Rattle.theory.specs.Model.{Layout}
-use Rattle.theory.specs.Collect.{Heap as Places, St}
+use Rattle.theory.specs.Collect.{St}
 use Rattle.theory.specs.Machine.{Shape, Machine as Closed, Never as ClosedNeverMoving}
 
 abbrev pub closed_layout : Rules → Layout

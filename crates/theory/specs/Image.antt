@@ -1,13 +1,10 @@
 -- The image of a state, when it is sealed, and how long that may take.
-use Rattle.std.specs.Prelude.{◌≡◌, ℕ, zero, suc, ◌+◌, ◌-◌, ◌*◌, ◌/◌, ◌%◌, ◌<◌, ◌≤◌, Bool, true, false, cond, not, ◌&&◌, ◌||◌, List, [], ◌∷◌, ◌==◌, nat_le, nat_lt}
-use Rattle.theory.specs.Model.{Layout}
-use Rattle.layouts.specs.declared.values.Value.{Value}
+use Rattle.std.specs.Prelude.{◌≡◌, ℕ, ◌+◌, ◌<◌, Bool, cond, ◌||◌, List, ◌==◌, nat_le, nat_lt}
 use Rattle.theory.specs.Machine.{Shape, half, Machine, view_m, refusal}
-use Rattle.model.specs.declared.states.Phase.{Phase}
 use Rattle.model.specs.declared.states.Phase.TheVariants.{Imaging}
 use Rattle.model.specs.declared.calls.Call.{Call}
 use Rattle.model.specs.declared.calls.Call.TheVariants.{New, Load, Store, Copy, SetNumber, SetNil, Same, Tell, Count, Flip as Turn, Step, Take, Resolve, Mark, Save}
-use Rattle.model.specs.Outcomes.{Told, Told.sealed}
+use Rattle.model.specs.Outcomes.{Told.sealed}
 use Rattle.theory.specs.Buffer.{closed_head_word, word_for}
 use Rattle.theory.specs.Steps.{call, fresh_m}
 use Rattle.theory.specs.Runs.{after, Quiet, marks}

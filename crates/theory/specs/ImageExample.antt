@@ -5,9 +5,7 @@ use Rattle.std.specs.declared.option.Option.TheVariants as Option
 use Rattle.layouts.specs.Tagged.{tagged}
 use Rattle.layouts.specs.declared.values.Value.TheVariants.{Nil, Number, Reference}
 use Rattle.model.specs.declared.calls.Answer.{Answer}
-use Rattle.model.specs.declared.calls.Answer.TheVariants as Answer
 use Rattle.model.specs.declared.calls.Call.{Call}
-use Rattle.model.specs.declared.calls.Call.TheVariants as Call
 use Rattle.model.specs.declared.calls.Kind.TheVariants as Kind
 use Rattle.model.specs.Calls.{fresh_memory, answers}
 use Rattle.model.specs.Restoring.{restore_refusal}

@@ -1,21 +1,18 @@
 -- The heap that moves objects and the one that never does: states, calls, answers and refusals.
-use Rattle.std.specs.Prelude.{◌≡◌, ℕ, zero, suc, ◌+◌, ◌-◌, ◌*◌, ◌/◌, ◌%◌, ◌<◌, ◌≤◌, min, max, Bool, true, false, cond, not, ◌&&◌, ◌||◌, List, [], ◌∷◌, ◌==◌, nat_le, nat_lt}
+use Rattle.std.specs.Prelude.{ℕ, zero, suc, ◌+◌, ◌-◌, ◌*◌, ◌/◌, ◌≤◌, Bool, cond, not, ◌&&◌, ◌||◌, ◌==◌, nat_le, nat_lt}
 use Rattle.memory.specs.declared.refusals.Refusal.{Refusal}
 use Rattle.memory.specs.declared.refusals.Refusal.TheVariants.{Size, Outside, Name, Short, OtherImage, BadImage, Frames, Waits, NoReference, Slot, Misfit, NoSpace, Busy, FaultStands, Nothing, NoFault}
-use Rattle.memory.specs.declared.refusals.Refusal.TheVariants as Refusal
 use Rattle.model.specs.declared.states.State.{State}
 use Rattle.model.specs.declared.states.Phase.{Phase}
 use Rattle.model.specs.declared.calls.Answer.{Answer}
-use Rattle.model.specs.declared.calls.Answer.TheVariants as Answer
 use Rattle.model.specs.declared.calls.Call.{Call}
 use Rattle.model.specs.declared.calls.Call.TheVariants.{New, Load, Store, Copy, SetNumber, SetNil, Same, Tell, Count, Flip as Turn, Step, Take, Resolve, Mark, Save}
 use Rattle.model.specs.Objects.{is_reference}
 use Rattle.model.specs.Refusing.{is_running, is_waiting, is_in_hand, is_idle, is_collecting, is_imaging}
-use Rattle.theory.specs.Model.{map_v, Layout, upd, blit, sum_to, weight}
+use Rattle.theory.specs.Model.{Layout, upd}
 use Rattle.layouts.specs.declared.values.Value.{Value}
 use Rattle.layouts.specs.declared.values.Value.TheVariants.{Nil, Number, Reference}
-use Rattle.theory.specs.Collect.{Heap, Flip, St, forward_regs, scan_run}
-use Rattle.theory.specs.Reach.{closed_reached_words}
+use Rattle.theory.specs.Collect.{Heap, St, scan_run}
 
 pub record Shape : Type 0 where
   pub lay : Layout

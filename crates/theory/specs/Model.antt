@@ -1,5 +1,5 @@
 -- Values, layouts, memory and sums.
-use Rattle.std.specs.Prelude.{◌≡◌, ℕ, zero, suc, ◌+◌, ◌-◌, ◌*◌, ◌<◌, ◌≤◌, Bool, true, false, cond, ◌&&◌, nat_le, nat_lt}
+use Rattle.std.specs.Prelude.{ℕ, ◌+◌, ◌-◌, Bool, cond, ◌&&◌, nat_le, nat_lt}
 use Rattle.memory.specs.Memory.{changed}
 use Rattle.layouts.specs.declared.values.Value.{Value}
 use Rattle.model.specs.Collections.{at_address}

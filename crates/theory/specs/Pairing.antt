@@ -1,13 +1,10 @@
 -- What a collection does, from its FLIP to the STEP that ends it.
-use Rattle.std.specs.Prelude.{◌≡◌, ℕ, zero, suc, ◌+◌, ◌-◌, ◌*◌, ◌/◌, ◌<◌, ◌≤◌, Bool, true, false, ◌≢◌, ◌⊎◌}
-use Rattle.theory.specs.Model.{map_v, Layout}
-use Rattle.layouts.specs.declared.values.Value.{Value}
-use Rattle.layouts.specs.declared.values.Value.TheVariants.{Reference}
-use Rattle.theory.specs.Collect.{Laws, Heap, size, Clear}
+use Rattle.std.specs.Prelude.{◌≡◌, ℕ, suc, ◌+◌, ◌*◌, ◌/◌, ◌<◌, ◌≤◌, Bool, true, ◌≢◌, ◌⊎◌}
+use Rattle.theory.specs.Model.{map_v}
+use Rattle.theory.specs.Collect.{size, Clear}
 use Rattle.theory.specs.Reach.{reaches}
 use Rattle.theory.specs.Machine.{Shape, half, Machine, Never, view_m, refusal}
-use Rattle.model.specs.declared.states.Phase.{Phase}
-use Rattle.model.specs.declared.states.Phase.TheVariants.{Idle, Collecting}
+use Rattle.model.specs.declared.states.Phase.TheVariants.{Collecting}
 use Rattle.model.specs.declared.calls.Call.{Call}
 use Rattle.model.specs.declared.calls.Call.TheVariants.{Flip as Turn, Step}
 use Rattle.model.specs.Outcomes.{Told.ended}

@@ -1,10 +1,9 @@
 -- What the registers reach, computed in rounds.
-use Rattle.std.specs.Prelude.{◌≡◌, ℕ, zero, suc, ◌+◌, ◌<◌, ◌≤◌, Bool, true, false, cond, ◌&&◌, ◌||◌, eqb}
+use Rattle.std.specs.Prelude.{ℕ, zero, suc, Bool, ◌&&◌, ◌||◌}
 use Rattle.theory.specs.Model.{Layout, sum_to, weight}
 use Rattle.layouts.specs.declared.values.Value.{Value}
-use Rattle.layouts.specs.declared.values.Value.TheVariants.{Nil, Number, Reference}
 use Rattle.model.specs.Reaching.{any_below, refers_to}
-use Rattle.theory.specs.Collect.{Heap, Flip, size}
+use Rattle.theory.specs.Collect.{Heap, size}
 
 -- some k below n passes
 abbrev pub any : ℕ → (ℕ → Bool) → Bool

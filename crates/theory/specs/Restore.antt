@@ -1,17 +1,16 @@
 -- RESTORE: what it makes of a buffer, and when it refuses.
-use Rattle.std.specs.Prelude.{◌≡◌, ℕ, zero, suc, ◌+◌, ◌-◌, ◌*◌, ◌/◌, ◌%◌, ◌<◌, ◌≤◌, Bool, true, false, cond, not, ◌&&◌, ◌||◌, List, [], ◌∷◌, ◌==◌, nat_le, nat_lt}
+use Rattle.std.specs.Prelude.{◌≡◌, ℕ, zero, suc, ◌+◌, ◌-◌, ◌*◌, ◌<◌, ◌≤◌, Bool, true, false, cond, not, ◌&&◌, ◌||◌, List, [], ◌∷◌, ◌==◌, nat_le, nat_lt}
 use Rattle.theory.specs.Model.{Layout}
 use Rattle.layouts.specs.declared.values.Value.{Value}
 use Rattle.layouts.specs.declared.values.Value.TheVariants.{Nil, Number, Reference}
 use Rattle.theory.specs.Machine.{Shape, half, Machine, view_m, refusal}
 use Rattle.model.specs.declared.states.State.TheVariants.{Running}
-use Rattle.model.specs.declared.states.Phase.{Phase}
 use Rattle.model.specs.declared.states.Phase.TheVariants.{Idle}
 use Rattle.model.specs.declared.calls.Call.{Call}
 use Rattle.model.specs.declared.calls.Call.TheVariants.{Mark, Save}
 use Rattle.model.specs.Outcomes.{Told.sealed}
 use Rattle.theory.specs.Steps.{call, fresh_m}
-use Rattle.theory.specs.Image.{used_at, image_word}
+use Rattle.theory.specs.Image.{used_at}
 use Rattle.theory.specs.Runs.{after, Quiet, marks}
 
 -- every number below n passes

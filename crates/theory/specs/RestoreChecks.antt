@@ -35,8 +35,8 @@ pub data Check : Type 0 where
   registers_refer : Check
 
 -- words of a row of objects, from start up to stop, in a heap
-abbrev pub whole : Rules → Heap → ℕ → ℕ → Bool
-whole L h start stop = is_row L h.memory.word (half_words h.memory) start stop
+abbrev pub is_whole_row : Rules → Heap → ℕ → ℕ → Bool
+is_whole_row L h start stop = is_row L h.memory.word (half_words h.memory) start stop
 
 abbrev pub slots_refer : Rules → Heap → ℕ → ℕ → Bool
 slots_refer L h start stop = slots_pass L h.memory.word (refers_well L h) (half_words h.memory) start stop
@@ -54,8 +54,8 @@ passes L m n b words_fit = nat_le (b 4 + b 5) (half_words m)
 passes L m n b kinds_to_2 = every_below 32 (λ k. leb (b (6 + 2 * k)) 2)
 passes L m n b nils_bare = every_below 32 (λ k. not (b (6 + 2 * k) == 0) || b (7 + 2 * k) == 0)
 passes L m n b unused_0 = every_below (half_words m) (unused_is_0 m b)
-passes L m n b copied_whole = whole L (restored m b) (to_start (restored m b)) (restored m b).space.copy_end
-passes L m n b new_whole = whole L (restored m b) (restored m b).new_start (to_stop (restored m b))
+passes L m n b copied_whole = is_whole_row L (restored m b) (to_start (restored m b)) (restored m b).space.copy_end
+passes L m n b new_whole = is_whole_row L (restored m b) (restored m b).new_start (to_stop (restored m b))
 passes L m n b copied_refer = slots_refer L (restored m b) (to_start (restored m b)) (restored m b).space.copy_end
 passes L m n b new_refer = slots_refer L (restored m b) (restored m b).new_start (to_stop (restored m b))
 passes L m n b registers_refer = every_below 32 (λ k. refers_well L (restored m b) ((restored m b).register k))

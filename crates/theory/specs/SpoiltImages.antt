@@ -6,9 +6,7 @@ use Rattle.memory.specs.Memory.{Memory}
 use Rattle.memory.specs.declared.refusals.Refusal.TheVariants.{Outside, Slot}
 use Rattle.layouts.specs.Tagged.{tagged}
 use Rattle.model.specs.declared.calls.Answer.{Answer}
-use Rattle.model.specs.declared.calls.Answer.TheVariants as Answer
 use Rattle.model.specs.declared.calls.Call.{Call}
-use Rattle.model.specs.declared.calls.Call.TheVariants as Call
 use Rattle.model.specs.declared.calls.Kind.TheVariants as Kind
 use Rattle.model.specs.Calls.{fresh_memory, after, answers}
 use Rattle.model.specs.Restoring.{restored}

@@ -1,17 +1,16 @@
 -- What each call does, on the heap that moves objects and on the one that never does.
-use Rattle.std.specs.Prelude.{◌≡◌, ℕ, zero, suc, ◌+◌, ◌-◌, ◌*◌, ◌/◌, ◌%◌, ◌^◌, ◌<◌, ◌≤◌, min, max, Bool, true, false, cond, not, ◌&&◌, ◌||◌, List, [], ◌∷◌, ◌==◌, nat_le, nat_lt}
-use Rattle.model.specs.declared.calls.Answer.TheVariants as Answer
+use Rattle.std.specs.Prelude.{ℕ, suc, ◌+◌, ◌-◌, ◌*◌, ◌/◌, min, Bool, true, false, cond, not, ◌&&◌, ◌||◌, List, [], ◌∷◌, ◌==◌, nat_le, nat_lt}
 use Rattle.model.specs.Heap.{plus}
 use Rattle.model.specs.Objects.{referred, same_value, kind_of, initial as initial_value}
 use Rattle.model.specs.Faults.{fault_page}
 use Rattle.model.specs.Never.{caller}
-use Rattle.theory.specs.Model.{map_v, Layout, upd, blit, sum_to, weight}
+use Rattle.theory.specs.Model.{Layout, upd, sum_to}
 use Rattle.layouts.specs.declared.values.Value.{Value}
 use Rattle.layouts.specs.declared.values.Value.TheVariants.{Nil, Number, Reference}
-use Rattle.theory.specs.Collect.{Heap, Flip, St, forward_regs, scan_run}
+use Rattle.theory.specs.Collect.{Heap, St, forward_regs}
 use Rattle.theory.specs.Reach.{closed_reached_words}
 use Rattle.theory.specs.Buffer.{closed_mark_words, closed_page_words}
-use Rattle.theory.specs.Machine.{fault, Shape, half, whole, Found, Found.none, Found.found, refused, trapped, fine, says, number, Machine, Never, at, view_m, view_a, refusal, head_of, closed_is_idle, is_busy, closed_is_imaging, is_hand, lowest, ran_page, grant}
+use Rattle.theory.specs.Machine.{fault, Shape, half, whole, Found, Found.none, Found.found, refused, trapped, fine, says, number, Machine, Never, at, view_m, view_a, refusal, head_of, is_busy, closed_is_imaging, is_hand, lowest, ran_page, grant}
 use Rattle.model.specs.declared.states.State.{State}
 use Rattle.model.specs.declared.states.State.TheVariants.{Running, Waiting, InHand}
 use Rattle.model.specs.declared.states.Phase.{Phase}

@@ -1,4 +1,4 @@
-use Rattle.std.specs.Prelude.{◌≡◌, ℕ, ◌+◌, ◌<◌, ◌≤◌, List}
+use Rattle.std.specs.Prelude.{◌≡◌, ℕ, ◌<◌, List}
 use Rattle.theory.specs.Collect.{Laws}
 use Rattle.theory.specs.Machine.{Shape}
 use Rattle.model.specs.declared.calls.Call.{Call}

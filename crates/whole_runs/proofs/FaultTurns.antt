@@ -1,23 +1,20 @@
 -- What TAKE and RESOLVE leave at hand.
-use Rattle.std.proofs.Common.{◌≡◌, ℕ, ◌<◌, ◌≤◌, Bool, true, false, cond, not, ◌&&◌, eqb, ltb, List, [], ◌∷◌, length, get_or, set, Some, None, Option, sym, refl, ap, ◌∙◌, subst, inl, inr, arith}
+use Rattle.std.proofs.Common.{◌≡◌, ℕ, ◌<◌, Bool, true, false, cond, not, ◌&&◌, eqb, ltb, List, [], ◌∷◌, length, get_or, set, Some, None, Option, sym, refl, ap, ◌∙◌, subst, inl, inr, arith}
 use Rattle.std.proofs.lemmas.List.{get_or-replicate, get_or-set_same, get_or-set_other}
 use Rattle.std.proofs.lemmas.Bool.{cases_eq, eq-eqb, ne_eqb, eqb-true, not-false, cond-true, cond-false, lt-ltb, ltb-false, true≢false, false≢true}
 use Rattle.memory.specs.Memory.{changed}
-use Rattle.memory.specs.Refusals.{number}
 use Rattle.memory.specs.declared.refusals.Refusal.{Refusal}
 use Rattle.memory.specs.declared.refusals.Refusal.TheVariants.{Name, Short, NoFault}
 use Rattle.layouts.specs.Layouts.{Rules}
 use Rattle.model.specs.declared.calls.Answer.{Answer}
 use Rattle.model.specs.declared.calls.Answer.TheVariants.{Refused, Trapped, Done, Same, Kind, Count, Copied, Scanned, Stepped, Saved}
-use Rattle.model.specs.declared.calls.Answer.TheVariants as Answer
-use Rattle.model.specs.declared.calls.Call.{Call}
 use Rattle.model.specs.declared.calls.Call.TheVariants.{Take, Resolve}
 use Rattle.model.specs.declared.states.State.{State}
 use Rattle.model.specs.declared.states.State.TheVariants.{Running, Waiting, InHand}
-use Rattle.model.specs.Heap.{Heap as Model, with_states, with_state}
+use Rattle.model.specs.Heap.{Heap as Model, with_states}
 use Rattle.model.specs.Outcomes.{Machine, Outcome, outcome, with_heap, unless}
 use Rattle.model.specs.Refusing.{is_waiting, is_in_hand, no_mutator, holds_fault, refuse_if}
-use Rattle.model.specs.Faults.{fault_page, resolve, wants_scan, wants_save}
+use Rattle.model.specs.Faults.{fault_page, wants_scan, wants_save}
 use Rattle.model.specs.Images.{image_words}
 use Rattle.model.specs.Calls.{moving_view, carried_out, turned_down, call}
 use Rattle.heap.specs.Effects.{Does}

@@ -1,5 +1,5 @@
 -- A call that is lent the first words of a buffer, as a call on the whole of it.
-use Rattle.std.proofs.Common.{◌≡◌, ℕ, ◌+◌, ◌-◌, ◌<◌, ◌≤◌, cond, ltb, List, ◌++◌, length, get_or, take, drop, sym, refl, ap, ◌∙◌, subst, inl, inr, arith}
+use Rattle.std.proofs.Common.{◌≡◌, ℕ, ◌+◌, ◌-◌, ◌≤◌, List, ◌++◌, length, get_or, take, drop, sym, ap, ◌∙◌, inl, inr, arith}
 use Rattle.std.proofs.lemmas.List.{length-take-le, get_or-take, get_or-drop, get_or_append_left, get_or-append_right}
 use Rattle.std.proofs.lemmas.Bool.{cases_lt, cond-true, cond-false, lt-ltb, le-ltb}
 use Rattle.layouts.specs.Layouts.{Rules}
@@ -8,7 +8,7 @@ use Rattle.model.specs.declared.calls.Call.{Call}
 use Rattle.model.specs.Heap.{Heap as Model}
 use Rattle.model.specs.Outcomes.{outcome}
 use Rattle.model.specs.Calls.{call}
-use Rattle.images.specs.Lent.{lent, machine, Writes}
+use Rattle.images.specs.Lent.{lent, Writes}
 use Rattle.restoring.specs.Restored.{image_view}
 use Rattle.whole_runs.specs.Lists.{with_buffer}
 

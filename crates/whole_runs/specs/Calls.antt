@@ -1,10 +1,8 @@
 -- The calls of a list as they are carried out with one buffer.
 use Rattle.std.specs.Prelude.{ℕ, min, List, [], ◌∷◌, Option}
-use Rattle.std.specs.declared.option.Option.TheVariants as Option
 use Rattle.model.specs.declared.calls.Call.{Call}
 use Rattle.model.specs.declared.calls.Call.TheVariants.{New, Load, Store, Copy, SetNumber, SetNil, Same, Tell, Count, Flip, Step, Take, Resolve, Mark, Save}
 use Rattle.whole_runs.specs.declared.fault_calls.FaultCall.{FaultCall}
-use Rattle.whole_runs.specs.declared.fault_calls.FaultCall.TheVariants as FaultCall
 
 -- a TAKE or RESOLVE
 abbrev pub fault_call : Call → Option FaultCall

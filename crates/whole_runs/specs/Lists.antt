@@ -5,7 +5,6 @@ use Rattle.memory.specs.declared.refusals.Refusal.{Refusal}
 use Rattle.memory.specs.declared.refusals.Refusal.TheVariants.{Size, Short}
 use Rattle.memory.specs.declared.refusals.Rejected.{Rejected}
 use Rattle.layouts.specs.Layouts.{Rules}
-use Rattle.std.specs.declared.option.Option.TheVariants as Option
 use Rattle.model.specs.declared.calls.Answer.{Answer}
 use Rattle.model.specs.declared.calls.Call.{Call}
 use Rattle.model.specs.Heap.{Heap as Model}

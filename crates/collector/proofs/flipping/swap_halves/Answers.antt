@@ -1,5 +1,5 @@
 use Rattle.std.proofs.Common.{◌+◌, ◌*◌, ap, ◌∙◌, ap₂}
-use Rattle.model.specs.Heap.{Heap as Model, first_page, first_word, whole_pages}
+use Rattle.model.specs.Heap.{first_page, first_word, whole_pages}
 use Rattle.model.specs.Collecting.{flipped_memory, swapped}
 use Rattle.collector.specs.Starts.{starts_view}
 use Rattle.state.specs.View.{state_of}

@@ -1,8 +1,7 @@
-use Rattle.std.proofs.Common.{◌≡◌, ℕ, ◌≤◌, length, sym, refl, ap, ◌∙◌, arith, rules}
+use Rattle.std.proofs.Common.{◌≡◌, ℕ, ◌≤◌, length, refl, ap, ◌∙◌, arith, rules}
 use Rattle.heap.specs.View.{view}
-use Rattle.runs.specs.Lists.{as_calls}
 use Rattle.runs.specs.declared.lists.MutatorCall.TheVariants.{New}
-use Rattle.runs.proofs.Turns.{machine, rest, goal as goal', as_long, at_start, one_more, all_said, all_others, all_gone, as_if}
+use Rattle.runs.proofs.Turns.{rest, goal as goal', as_long, at_start, one_more, all_said, all_others, all_gone, as_if}
 use Rattle.runs.proofs.lists.run.Goals as goal
 
 pub loop-i-init : goal.loop-i-init
