@@ -1,6 +1,7 @@
-ghost use Rattle.std.specs.Prelude.{◌≡◌};
+ghost use Rattle.std.specs.Prelude.{◌≡◌, ◌<◌};
 
-/// A fault that was handed out. It must be given to RESOLVE: a program that drops one is not proved.
+/// A fault that was handed out. It must be given to RESOLVE: a program that drops one is not proved. For only a fault of no
+/// mutator may be dropped, and TAKE says that the fault it hands out is of one of the four.
 pub struct Fault {
     pub(crate) mutator: u32,
     pub(crate) page: u32,
@@ -8,7 +9,7 @@ pub struct Fault {
 
 impl Drop for Fault {
     fn drop(self)
-        requires { ⊥ }
+        requires { 3 < self.mutator }
     {
         let Fault {
             mutator: _,
