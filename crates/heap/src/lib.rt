@@ -8,6 +8,7 @@ pub mod heap_state;
 pub mod image_calls;
 pub mod making;
 pub mod parts;
+pub mod plain_state;
 pub mod register_calls;
 pub mod registers;
 pub mod slot_calls;
