@@ -4,8 +4,8 @@
 usage: respell.py [FOLDER]      once, at the top of a repository right after the kit's port.py
 
 names.txt, beside this file, has a line 'old new' for each name. A name is replaced wherever it stands as a whole word in
-specs/ and proofs/, in the clauses and ghost lines of src/, and between backticks in README.md and docs/. In theory two names that port.py had given the spelling of
-definitions of other crates get a prefix. A member of a bound, which port.py left bare in clauses, is named through the bound.
+specs/ and proofs/, in the clauses and ghost lines of src/, and between backticks in README.md and docs/. In theory three names that port.py had given the spelling of
+definitions of other crates, or of a tactic, get a prefix. A member of a bound, which port.py left bare in clauses, is named through the bound.
 """
 
 import os
@@ -13,7 +13,7 @@ import re
 import sys
 
 WORD = re.compile(r"(?<![A-Za-z0-9_'\-])[A-Za-z_][A-Za-z0-9_'₀-₉ℕ\-]*")
-IN_THEORY = {"kind_of": "closed_kind_of", "page_of": "closed_page_of"}
+IN_THEORY = {"kind_of": "closed_kind_of", "page_of": "closed_page_of", "first_of": "closed_first_of"}
 # members of a bound and the parameter that has it
 MEMBERS = {"meaning": "H", "rules": "L"}
 BARE = re.compile(r"(?<![A-Za-z0-9_'\-.])(meaning|rules)(?![A-Za-z0-9_'\-])")

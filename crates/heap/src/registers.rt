@@ -1,7 +1,7 @@
 ghost use Rattle.std.specs.Prelude.{◌≡◌, ℕ, ◌<◌, true};
 ghost use Rattle.model.specs.Heap.{register_number, with_register, with_state};
 ghost use Rattle.model.specs.Refusing.{is_running};
-ghost use Rattle.model.specs.Mutators.{denied as denied-outcome};
+ghost use Rattle.model.specs.Mutators.{denied as denied_outcome};
 ghost use Rattle.model.specs.Outcomes.{outcome, trapped};
 ghost use Rattle.state.specs.View.{held_value, register_view, state_view};
 ghost use Rattle.heap.specs.View.{view};
@@ -60,7 +60,7 @@ impl<H: Host, L: Layout> Heap<H, L> {
     /// Ends an access that the host denied: a fault traps the mutator on its page.
     pub(crate) fn deny(&mut self, m: u32, denied: Denied) -> Result<Access, Refusal>
         requires { m < 4 }
-        ensures ends { denied-outcome (view H.Host.meaning self.old) m denied ≡ outcome (view H.Host.meaning self.new) (access_answer result) }
+        ensures ends { denied_outcome (view H.Host.meaning self.old) m denied ≡ outcome (view H.Host.meaning self.new) (access_answer result) }
         ensures layout { self.new.layout ≡ self.old.layout }
     {
         match denied {

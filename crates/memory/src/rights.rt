@@ -1,5 +1,5 @@
 ghost use Rattle.std.specs.Prelude.{◌≡◌};
-ghost use Rattle.memory.specs.Rights.{lesser as lesser-of, greater as greater-of, may_read, may_write};
+ghost use Rattle.memory.specs.Rights.{lesser as lesser_of, greater as greater_of, may_read, may_write};
 
 /// What a page allows, rising.
 #[derive(Clone, Copy)]
@@ -14,7 +14,7 @@ pub enum Right {
 
 impl Right {
     pub fn lesser(self, other: Right) -> Right
-        ensures { result ≡ lesser-of self other }
+        ensures { result ≡ lesser_of self other }
     {
         match (self, other) {
             (Right::None, _) | (_, Right::None) => Right::None,
@@ -24,7 +24,7 @@ impl Right {
     }
 
     pub fn greater(self, other: Right) -> Right
-        ensures { result ≡ greater-of self other }
+        ensures { result ≡ greater_of self other }
     {
         match (self, other) {
             (Right::All, _) | (_, Right::All) => Right::All,

@@ -30,8 +30,8 @@ module _ (L : Rules) (word : ℕ → ℕ) (t i a stop : ℕ) where
         broken =
             let fuel : t - i ≡ suc (t - (i + 1)) = omega arith in
             let q = ne_eqb a stop ne in
-            let no-object = ap ends_by (sym is_x) ∙ sym fails in
-            rw (fuel, q, no-object)
+            let no_object = ap ends_by (sym is_x) ∙ sym fails in
+            rw (fuel, q, no_object)
 
     pub row_next : i < t → (a ≡ stop → ⊥) → (x : ℕ) → x ≡ word a → true ≡ ends_by x → (n : ℕ) → n ≡ object_words L x → is_row L word (t - (i + 1)) (a + n) stop ≡ whole
     row_next h ne x is_x passes n is_n = ap (λ k. is_row L word (t - (i + 1)) (a + k) stop) (is_n ∙ ap (object_words L) is_x) ∙ next ∙ inv

@@ -60,12 +60,12 @@ with_object L m a x r n = record {
 }
 
 module _ (L : Rules) (m : Memory) (a r w : ℕ)
-    (within : a + suc (r + w) ≤ extent m) (open-pages : (b : ℕ) → a ≤ b → b < a + suc (r + w) → may_write (m.right (page_of m b)) ≡ true) where
+    (within : a + suc (r + w) ≤ extent m) (open_pages : (b : ℕ) → a ≤ b → b < a + suc (r + w) → may_write (m.right (page_of m b)) ≡ true) where
   abbrev x : ℕ
   x = L.header r w
 
   written : (b v : ℕ) → a ≤ b → b < a + suc (r + w) → (k : Memory) → k.page_size ≡ m.page_size → k.page_count ≡ m.page_count → k.right ≡ m.right → after_put k b v ≡ with_word k b v
-  written b v l h k es ec er = after_put_allowed k b v (rw (es, ec) (omega arith)) (rw (es, er) (open-pages b l h))
+  written b v l h k es ec er = after_put_allowed k b v (rw (es, ec) (omega arith)) (rw (es, er) (open_pages b l h))
 
   first : after_put m a x ≡ with_object L m a x r 0
   first = written a x (omega arith) (omega arith) m refl refl refl ∙ same_memory _ _ refl refl (λ y. at y) (λ p. refl)

@@ -119,8 +119,8 @@ abbrev pub refs : Value → Bool
 refs v = is_reference v
 
 -- the first of the tests that fails gives its number; 0 if none does
-abbrev pub first_of : Bool → ℕ → ℕ → ℕ
-first_of b n rest = cond b n rest
+abbrev pub closed_first_of : Bool → ℕ → ℕ → ℕ
+closed_first_of b n rest = cond b n rest
 
 abbrev pub bad : ℕ → ℕ → Bool
 bad m r = not (nat_lt m 4 && nat_lt r 8)

@@ -36,14 +36,14 @@ returns g c =
     let kept = c.in_ok-heap.ensures in
     let even = even_pages L (means h) (length image) (image_view image) (sym kept.0) in
     let lacks : (eqb ((means h).page_count % 2) 0 && ltb (length old) (length cs)) ≡ false = search rules in
-    let enough-places = enough (means h) (length old) (length cs) even lacks in
+    let enough_places = enough (means h) (length old) (length cs) even lacks in
     let back = c.into_parts.ensures in
     let on = subst (λ m. CarriedOn L (with_buffer (view means c.in_ok-heap.heap) xs) (all_within (length xs) cs) old c.carry_out_all.new.answers c.carry_out_all.new.buffer m) (sym (ap (λ p. means p.0) back)) c.carry_out_all.ensures.carried in
     let start = both_restored L (means h) (image_view image) (image_view xs) in
     record {
       ran = (
         not_refused (means h) (length old) (length cs) _ lacks ∙ kept.0,
-        carried_out L g.met.L.Layout.lawful start (at_restore (means h) (g.met.H.Host.sized h) (image_view image) (image_view xs) (length image) (λ j e. (c.type_inv.image j).fits) kept.0) (all_within (length xs) cs) old c.carry_out_all.new.answers c.carry_out_all.new.buffer (means c.into_parts.result.0) (omega (arith, as_long (length xs) cs, enough-places))
+        carried_out L g.met.L.Layout.lawful start (at_restore (means h) (g.met.H.Host.sized h) (image_view image) (image_view xs) (length image) (λ j e. (c.type_inv.image j).fits) kept.0) (all_within (length xs) cs) old c.carry_out_all.new.answers c.carry_out_all.new.buffer (means c.into_parts.result.0) (omega (arith, as_long (length xs) cs, enough_places))
             (subst (λ k. CarriedOn L (with_buffer k xs) (all_within (length xs) cs) old c.carry_out_all.new.answers c.carry_out_all.new.buffer (means c.into_parts.result.0)) kept.1 on),
         ap (λ p. p.1) back ∙ c.carry_out_all.ensures.layout ∙ kept.2,
       );
