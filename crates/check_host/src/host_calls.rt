@@ -1,7 +1,7 @@
 ghost use Rattle.std.specs.Prelude.{◌≡◌, ℕ, ◌*◌, ◌<◌};
 ghost use Rattle.memory.specs.Memory.{with_word, with_right, extent, page_found};
 ghost use Rattle.check_host.specs.Meaning.{check_meaning, Made};
-ghost use Rattle.std.proofs.Common.{rules, arith};
+ghost use Rattle.std.proofs.Common.{rules};
 
 use super::marks::CheckHost;
 use memory::{Denied, Host, Refusal, Rejected, Right, sizes_fit};
@@ -80,13 +80,13 @@ impl CheckHost {
 impl Host for CheckHost {
     ghost meaning = { check_meaning };
 
-    ghost sized = { first_of (Prim.search rules, Prim.grind (arith, Self.row.coded.inj)) };
+    ghost sized = { Prim.search rules };
 
-    ghost narrow = { first_of (Prim.search rules, Prim.grind (arith, Self.row.coded.inj)) };
+    ghost narrow = { Prim.search rules };
 
-    ghost blank = { first_of (Prim.search rules, Prim.grind (arith, Self.row.coded.inj)) };
+    ghost blank = { Prim.search rules };
 
-    ghost shut = { first_of (Prim.search rules, Prim.grind (arith, Self.row.coded.inj)) };
+    ghost shut = { Prim.search rules };
 
     fn page_size(&self) -> u32 {
         self.page_size

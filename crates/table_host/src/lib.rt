@@ -4,7 +4,7 @@ ghost use Rattle.std.specs.Prelude.{◌≡◌, ◌<◌, vec_len};
 ghost use Rattle.memory.specs.Memory.{with_word, with_right, page_found};
 ghost use Rattle.table_host.specs.Meaning.{OnPage, table_meaning, translated};
 ghost use Rattle.table_host.specs.Making.{Made};
-ghost use Rattle.std.proofs.Common.{rules, arith};
+ghost use Rattle.std.proofs.Common.{rules};
 
 use entries::{entry_right, fresh_entries, is_frames, with_right};
 use memory::{Denied, Host, Refusal, Rejected, Right, sizes_fit};
@@ -109,13 +109,13 @@ impl TableHost {
 impl Host for TableHost {
     ghost meaning = { table_meaning };
 
-    ghost sized = { first_of (Prim.search rules, Prim.grind (arith, Self.row.coded.inj)) };
+    ghost sized = { Prim.search rules };
 
-    ghost narrow = { first_of (Prim.search rules, Prim.grind (arith, Self.row.coded.inj)) };
+    ghost narrow = { Prim.search rules };
 
-    ghost blank = { first_of (Prim.search rules, Prim.grind (arith, Self.row.coded.inj)) };
+    ghost blank = { Prim.search rules };
 
-    ghost shut = { first_of (Prim.search rules, Prim.grind (arith, Self.row.coded.inj)) };
+    ghost shut = { Prim.search rules };
 
     fn page_size(&self) -> u32 {
         self.page_size
