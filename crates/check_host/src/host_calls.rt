@@ -1,9 +1,9 @@
-ghost use Rattle.std.specs.Prelude.{◌≡◌, ℕ, ◌*◌, ◌<◌};
-ghost use Rattle.memory.specs.Memory.{with_word, with_right, extent, page_found};
+ghost use Rattle.std.specs.Prelude.{◌≡◌, ◌<◌};
+ghost use Rattle.memory.specs.Memory.{with_word, with_right, extent};
 ghost use Rattle.check_host.specs.Meaning.{check_meaning, Made};
 ghost use Rattle.std.proofs.Common.{rules};
 
-use super::marks::CheckHost;
+use super::marks::{CheckHost, Marks};
 use memory::{Denied, Host, Refusal, Rejected, Right, sizes_fit};
 
 impl CheckHost {
@@ -30,21 +30,10 @@ impl CheckHost {
         }
         Ok(CheckHost {
             memory,
-            readable: [true; 64],
-            writable: [true; 64],
+            marks: [Marks::from(Right::All); 64],
             page_size,
             page_count,
         })
-    }
-
-    // The page of an address.
-    fn page_of(&self, a: u32) -> Result<u32, Refusal>
-        ensures { result ≡ page_found (check_meaning self.now) a }
-    {
-        if a >= self.page_count * self.page_size {
-            return Err(Refusal::Outside);
-        }
-        Ok(a / self.page_size)
     }
 
     // The right of a page.
@@ -52,12 +41,7 @@ impl CheckHost {
         requires { p < self.now.page_count }
         ensures { result ≡ (check_meaning self.now).right p }
     {
-        let p = p as usize;
-        match (self.readable[p], self.writable[p]) {
-            (false, _) => Right::None,
-            (true, false) => Right::Read,
-            (true, true) => Right::All,
-        }
+        self.marks[p as usize].right()
     }
 
     // Marks a page with a right.
@@ -65,8 +49,7 @@ impl CheckHost {
         requires { p < self.old.page_count }
         ensures { check_meaning self.new ≡ with_right (check_meaning self.old) p right }
     {
-        self.readable[p as usize] = right.reads();
-        self.writable[p as usize] = right.writes();
+        self.marks[p as usize] = Marks::from(right);
     }
 
     fn write(&mut self, a: u32, w: u32)
@@ -76,6 +59,8 @@ impl CheckHost {
         self.memory[a as usize] = w;
     }
 }
+
+// The table host's `prot1` and `unprot` are the same two lines: a body in the trait would ask every host how it keeps a right.
 
 impl Host for CheckHost {
     ghost meaning = { check_meaning };
@@ -125,17 +110,13 @@ impl Host for CheckHost {
     }
 
     fn prot1(&mut self, p: u32, right: Right) -> Result<(), Refusal> {
-        if p >= self.page_count {
-            return Err(Refusal::Outside);
-        }
+        self.check_page(p)?;
         self.mark(p, self.right(p).lesser(right));
         Ok(())
     }
 
     fn unprot(&mut self, p: u32, right: Right) -> Result<(), Refusal> {
-        if p >= self.page_count {
-            return Err(Refusal::Outside);
-        }
+        self.check_page(p)?;
         self.mark(p, self.right(p).greater(right));
         Ok(())
     }

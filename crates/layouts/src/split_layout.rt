@@ -7,7 +7,7 @@ use super::values::Value;
 use memory::Refusal;
 
 /// Layout 2: an object's first slots take only nil and references, the others only numbers, of all 32 bits.
-#[derive(Clone, Copy)]
+#[derive(Clone, Copy, Debug)]
 pub struct Split;
 
 // The number of the layout.
@@ -29,6 +29,7 @@ impl Layout for Split {
         NUMBER
     }
 
+    // The test of the other layout: one line, with no word of either.
     fn header(&self, references: u32, numbers: u32) -> Result<u32, Refusal> {
         if references > 255 || numbers > 255 - references {
             return Err(Refusal::Shape);

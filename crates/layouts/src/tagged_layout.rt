@@ -8,7 +8,7 @@ use memory::Refusal;
 
 /// Layout 1: the low bits of a slot's word tell its kind, so every slot takes nil, references and numbers below
 /// 2^31.
-#[derive(Clone, Copy)]
+#[derive(Clone, Copy, Debug)]
 pub struct Tagged;
 
 // The number of the layout.

@@ -1,5 +1,5 @@
 /// What a slot or a register may hold.
-#[derive(Clone, Copy)]
+#[derive(Clone, Copy, Debug, PartialEq, Eq)]
 pub enum Value {
     /// No object.
     Nil,

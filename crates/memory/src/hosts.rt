@@ -1,13 +1,14 @@
 ghost use Rattle.std.specs.Prelude.{◌≡◌, ℕ, ◌^◌, ◌<◌, ◌≤◌, true};
 ghost use Rattle.memory.specs.declared.hosts.Denied.TheVariants.{Refused};
 ghost use Rattle.memory.specs.declared.rights.Right.TheVariants.{None};
-ghost use Rattle.memory.specs.Memory.{Memory, legal_sizes, extent, look_answer, put_answer, see_answer, set_answer, page_answer, run_answer, after_put, after_set, after_prot1, after_protn, after_unprot};
+ghost use Rattle.memory.specs.Memory.{Memory, legal_sizes, extent, look_answer, put_answer, see_answer, set_answer, page_found, page_answer, run_answer, after_put, after_set, after_prot1, after_protn, after_unprot};
 
 use super::refusals::Refusal;
 use super::rights::Right;
+use std::fmt;
 
 /// Why a host does not carry out an access.
-#[derive(Clone, Copy)]
+#[derive(Clone, Copy, Debug, PartialEq, Eq)]
 pub enum Denied {
     /// The call is refused, for its address lies outside.
     Refused(Refusal),
@@ -21,6 +22,15 @@ impl From<Refusal> for Denied {
 
     fn from(refusal: Refusal) -> Denied {
         Denied::Refused(refusal)
+    }
+}
+
+impl fmt::Display for Denied {
+    fn fmt<W: fmt::Write>(&self, f: &mut fmt::Formatter<W>) -> fmt::Result {
+        match self {
+            Denied::Refused(reason) => write!(f, "{reason}"),
+            Denied::Fault(page) => write!(f, "faults on page {page}"),
+        }
     }
 }
 
@@ -47,6 +57,26 @@ pub trait Host {
     /// How many pages there are.
     fn page_count(&self) -> u32
         ensures { result ≡ (meaning self.now).page_count };
+
+    /// The page of an address.
+    fn page_of(&self, a: u32) -> Result<u32, Refusal>
+        ensures { result ≡ page_found (meaning self.now) a }
+    {
+        a.checked_div(self.page_size())
+            .filter(|page| *page < self.page_count())
+            .ok_or(Refusal::Outside)
+    }
+
+    /// Refuses the number of a page outside.
+    fn check_page(&self, p: u32) -> Result<(), Refusal>
+        ensures { result ≡ page_answer (meaning self.now) p }
+    {
+        if p < self.page_count() {
+            Ok(())
+        } else {
+            Err(Refusal::Outside)
+        }
+    }
 
     /// Reads the word at an address.
     fn look(&mut self, a: u32) -> Result<u32, Denied>

@@ -1,8 +1,10 @@
 ghost use Rattle.std.specs.Prelude.{◌≡◌};
 ghost use Rattle.memory.specs.Refusals.{number as number_of_lem};
 
+use std::fmt;
+
 /// Why a call is refused. Where several reasons apply, the one with the lowest number is given.
-#[derive(Clone, Copy)]
+#[derive(Clone, Copy, Debug, PartialEq, Eq)]
 pub enum Refusal {
     /// Page size, page count or divisor that no host may have.
     Size = 1,
@@ -45,6 +47,13 @@ impl Refusal {
         ensures { result ≡ number_of_lem self }
     {
         self as u32
+    }
+}
+
+/// A refusal is told by its number.
+impl fmt::Display for Refusal {
+    fn fmt<W: fmt::Write>(&self, f: &mut fmt::Formatter<W>) -> fmt::Result {
+        write!(f, "refused {}", self.number())
     }
 }
 

@@ -2,7 +2,7 @@ ghost use Rattle.std.specs.Prelude.{◌≡◌};
 ghost use Rattle.memory.specs.Rights.{lesser as lesser_of, greater as greater_of, may_read, may_write};
 
 /// What a page allows, rising.
-#[derive(Clone, Copy)]
+#[derive(Clone, Copy, Debug, PartialEq, Eq, PartialOrd, Ord)]
 pub enum Right {
     /// No access.
     None = 0,
@@ -16,38 +16,24 @@ impl Right {
     pub fn lesser(self, other: Right) -> Right
         ensures { result ≡ lesser_of self other }
     {
-        match (self, other) {
-            (Right::None, _) | (_, Right::None) => Right::None,
-            (Right::Read, _) | (_, Right::Read) => Right::Read,
-            (Right::All, Right::All) => Right::All,
-        }
+        self.min(other)
     }
 
     pub fn greater(self, other: Right) -> Right
         ensures { result ≡ greater_of self other }
     {
-        match (self, other) {
-            (Right::All, _) | (_, Right::All) => Right::All,
-            (Right::Read, _) | (_, Right::Read) => Right::Read,
-            (Right::None, Right::None) => Right::None,
-        }
+        self.max(other)
     }
 
     pub fn reads(self) -> bool
         ensures { result ≡ may_read self }
     {
-        match self {
-            Right::None => false,
-            Right::Read | Right::All => true,
-        }
+        self >= Right::Read
     }
 
     pub fn writes(self) -> bool
         ensures { result ≡ may_write self }
     {
-        match self {
-            Right::None | Right::Read => false,
-            Right::All => true,
-        }
+        self == Right::All
     }
 }

@@ -1,7 +1,8 @@
 use memory::Refusal;
+use std::fmt;
 
 /// A call of a list. A buffer counts as the number of its words that the call is lent.
-#[derive(Clone, Copy)]
+#[derive(Clone, Copy, Debug, PartialEq, Eq)]
 pub enum Call {
     New {
         mutator: u32,
@@ -65,7 +66,7 @@ pub enum Call {
 }
 
 /// What a register was told to hold.
-#[derive(Clone, Copy)]
+#[derive(Clone, Copy, Debug, PartialEq, Eq)]
 pub enum Kind {
     Nil,
     Number(u32),
@@ -73,7 +74,7 @@ pub enum Kind {
 }
 
 /// What a call answers.
-#[derive(Clone, Copy)]
+#[derive(Clone, Copy, Debug, PartialEq, Eq)]
 pub enum Answer {
     Refused(Refusal),
     /// The call trapped on this page.
@@ -89,8 +90,45 @@ pub enum Answer {
     Copied(u32),
     /// RESOLVE's scanned and copied words.
     Scanned(u32, u32),
-    /// Whether the STEP ended the collection, its scanned and its copied words.
+    /// Whether the STEP ended the collection, its scanned and its copied words; both counts stand in either case.
     Stepped(bool, u32, u32),
     /// Whether the SAVE sealed the image.
     Saved(bool),
+}
+
+impl fmt::Display for Kind {
+    fn fmt<W: fmt::Write>(&self, f: &mut fmt::Formatter<W>) -> fmt::Result {
+        match self {
+            Kind::Nil => write!(f, "nil"),
+            Kind::Number(n) => write!(f, "the number {n}"),
+            Kind::Reference => write!(f, "a reference"),
+        }
+    }
+}
+
+impl fmt::Display for Answer {
+    fn fmt<W: fmt::Write>(&self, f: &mut fmt::Formatter<W>) -> fmt::Result {
+        match self {
+            Answer::Refused(refusal) => write!(f, "{refusal}"),
+            Answer::Trapped(page) => write!(f, "trapped on page {page}"),
+            Answer::Done => write!(f, "done"),
+            Answer::Same(true) => write!(f, "yes"),
+            Answer::Same(false) => write!(f, "no"),
+            Answer::Kind(kind) => write!(f, "{kind}"),
+            Answer::Count(n) => write!(f, "{n}"),
+            Answer::Fault(page) => write!(f, "the fault on page {page}"),
+            Answer::Copied(copied) => write!(f, "words copied: {copied}"),
+            Answer::Scanned(scanned, copied) => {
+                write!(f, "words scanned: {scanned}, copied: {copied}")
+            }
+            Answer::Stepped(true, scanned, copied) => {
+                write!(f, "ended, words scanned: {scanned}, copied: {copied}")
+            }
+            Answer::Stepped(false, scanned, copied) => {
+                write!(f, "going, words scanned: {scanned}, copied: {copied}")
+            }
+            Answer::Saved(true) => write!(f, "sealed"),
+            Answer::Saved(false) => write!(f, "going"),
+        }
+    }
 }

@@ -1,7 +1,9 @@
 -- Splitting each page of a memory into small pages.
-use Rattle.std.specs.Prelude.{◌≡◌, ℕ, zero, suc, ◌+◌, ◌*◌, ◌/◌, ◌<◌, Bool, cond, ◌&&◌, ◌||◌, List, ◌==◌, nat_lt, slice_index_or}
+use Rattle.std.specs.Prelude.{◌≡◌, ℕ, zero, suc, ◌+◌, ◌*◌, ◌/◌, ◌<◌, Bool, false, cond, ◌&&◌, ◌||◌, List, ◌==◌, nat_lt, slice_index_or, Result, MatchResult}
 use Rattle.memory.specs.Memory.{Memory, legal_sizes}
 use Rattle.memory.specs.Rights.{lesser}
+use Rattle.memory.specs.declared.refusals.Refusal.{Refusal}
+use Rattle.memory.specs.declared.refusals.Refusal.TheVariants.{Size}
 use Rattle.memory.specs.declared.rights.Right.{Right}
 use Rattle.memory.specs.declared.rights.Right.TheVariants.{None, All}
 use Rattle.small_pages.specs.declared.parts.Parts.{Parts}
@@ -23,10 +25,9 @@ fits m k = legal_sizes (m.page_count * k) (m.page_size / k)
 abbrev pub legal_split : Memory → ℕ → Bool
 legal_split m k = (k == 2 || k == 4 || k == 8) && fits m k
 
--- How many small pages each page of m makes. A layer whose small pages do not fit is never made; 1 only has to say
--- something there.
-abbrev pub divisor : Memory → Parts → ℕ
-divisor m parts = cond (fits m (number parts)) (number parts) 1
+-- the parts that a number stands for, or a refusal where it stands for none
+abbrev pub Divides : ℕ → Result Parts Refusal → Type 0
+Divides k r = MatchResult r (λ parts. number parts ≡ k) (λ e. (e ≡ Size) × ((k == 2 || k == 4 || k == 8) ≡ false))
 
 -- Memories
 
@@ -45,6 +46,10 @@ split m k = record { page_size = m.page_size / k; page_count = m.page_count * k;
 -- k pages out of each page of m, with the listed rights
 abbrev pub small_memory : Memory → ℕ → List Right → Memory
 small_memory m k rights = record { page_size = m.page_size / k; page_count = m.page_count * k; word = m.word; right = λ p. cond (nat_lt p (m.page_count * k)) (slice_index_or rights p None) None }
+
+-- a layer's memory by its state, over the memory below
+abbrev pub layer_of : Memory → Parts → List Right → Memory
+layer_of m parts rights = small_memory m (number parts) rights
 
 -- Rights
 

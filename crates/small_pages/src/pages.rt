@@ -1,10 +1,9 @@
-ghost use Rattle.std.specs.Prelude.{◌≡◌, ◌+◌, ◌*◌, ◌/◌, ◌<◌, ◌≤◌, true, false, Ok, Err, Option, nat_le};
-ghost use Rattle.std.proofs.Common.{subst, rules};
-ghost use Rattle.memory.specs.Memory.{inside, page_of, with_right, look_answer, put_answer, see_answer, set_answer, page_answer, run_answer, after_put, after_set, after_prot1, after_protn, after_unprot};
-ghost use Rattle.memory.specs.declared.refusals.Refusal.TheVariants.{Outside};
-ghost use Rattle.small_pages.specs.Splits.{number as number_of_lem, legal_split, opened, lowest};
-ghost use Rattle.small_pages.specs.Layers.{layer_meaning, below_meaning, parts_in, Least, SameSizes, Made, Unmade};
-ghost use Rattle.small_pages.specs.Sizes.{small_sized, small_extent};
+ghost use Rattle.std.specs.Prelude.{◌≡◌, ◌+◌, ◌<◌, ◌≤◌, true, false, Ok, Err, MatchResult, fold, nat_le, slice_range};
+ghost use Rattle.memory.specs.Memory.{after_set};
+ghost use Rattle.memory.specs.Rights.{lesser};
+ghost use Rattle.memory.specs.declared.refusals.Refusal.TheVariants.{Size};
+ghost use Rattle.memory.specs.declared.rights.Right.TheVariants.{All};
+ghost use Rattle.small_pages.specs.Splits.{number as number_of_lem, fits, layer_of, LeastIn, legal_split, opened};
 
 use super::parts::Parts;
 use memory::{Denied, Host, Refusal, Rejected, Right, sizes_fit};
@@ -16,10 +15,14 @@ use memory::{Denied, Host, Refusal, Rejected, Right, sizes_fit};
 /// allows an access that the page below does not, the second view of the host below carries it out. The layer is a
 /// host itself, so layers pile up.
 #[derive(Drop)]
-pub struct SmallPages<H> {
+pub struct SmallPages<H: Host> {
     pub(crate) below: H,
     pub(crate) parts: Parts,
     pub(crate) rights: [Right; 64],
+    // The small pages have sizes that a host may have.
+    pub ghost sized: { fits (H.meaning below) (number_of_lem parts) ≡ true },
+    // Each page below has the least right of its small pages.
+    pub ghost least: { LeastIn (H.meaning below) (layer_of (H.meaning below) parts rights) (number_of_lem parts) },
 }
 
 // The word at an address, whatever the page allows. Outside, where there is none, it is 0.
@@ -27,6 +30,7 @@ fn fetch<H: Host>(host: &mut H, a: u32) -> u32
     ensures answer { result ≡ (H.meaning host.old).word a }
     ensures after { H.meaning host.new ≡ H.meaning host.old }
 {
+    // A match, for a proof knows nothing of the host after a closure that holds it.
     match host.look(a) {
         Ok(w) => w,
         Err(_) => host.see(a).unwrap_or(0),
@@ -46,39 +50,45 @@ fn store<H: Host>(host: &mut H, a: u32, w: u32)
 fn open_all<H: Host>(host: &mut H)
     ensures { H.meaning host.new ≡ opened (H.meaning host.old) }
 {
-    let pages = host.page_count();
-    for p in 0..pages {
+    for p in 0..host.page_count() {
         let _ = host.unprot(p, Right::All);
     }
 }
 
 // The parts for a divisor with which the small pages have legal sizes.
-fn legal_parts<H: Host>(below: &H, k: u32) -> Option<Parts>
-    ensures { elim result [ Option.Some parts ↦ (number_of_lem parts ≡ k) × (legal_split (H.meaning below.now) k ≡ true) | Option.None ↦ legal_split (H.meaning below.now) k ≡ false ] }
+fn legal_parts<H: Host>(below: &H, k: u32) -> Result<Parts, Refusal>
+    ensures { MatchResult result (λ parts. (number_of_lem parts ≡ k) × (legal_split (H.meaning below.now) k ≡ true)) (λ e. (e ≡ Size) × (legal_split (H.meaning below.now) k ≡ false)) }
 {
-    let parts = match k {
-        2 => Parts::Two,
-        4 => Parts::Four,
-        8 => Parts::Eight,
-        _ => return None,
-    };
+    let parts = Parts::try_from(k)?;
     if sizes_fit(below.page_count() * k, below.page_size() / k) {
-        Some(parts)
+        Ok(parts)
     } else {
-        None
+        Err(Refusal::Size)
     }
 }
 
+// The least of the rights of `count` small pages from `first` on.
+fn least_of(rights: &[Right; 64], first: usize, count: usize) -> Right
+    requires { first + count ≤ 64 }
+    ensures { result ≡ fold lesser All (slice_range rights.now first (first + count)) }
+{
+    rights[first..first + count]
+        .iter()
+        .fold(Right::All, |least, right| least.lesser(*right))
+}
+
 impl<H: Host> SmallPages<H> {
+    ghost use Rattle.small_pages.specs.Layers.{layer_meaning, Made, Unmade};
+
     /// Makes `k` pages out of each page below. Raises every page below to all; every small page begins at all.
     ///
     /// Refused as `Size` for a `k` other than 2, 4 and 8, and where the small pages would have less than 16 words
     /// or be more than 64. The host then comes back as it was.
     pub fn make(mut below: H, k: u32) -> Result<SmallPages<H>, Rejected<H>>
-        ensures { elim result [ Ok s ↦ Made H.meaning below k s | Err e ↦ Unmade H.meaning below k e ] }
+        ensures { elim result [ Ok s ↦ Made below k s | Err e ↦ Unmade H.meaning below k e ] }
     {
         match legal_parts(&below, k) {
-            Some(parts) => {
+            Ok(parts) => {
                 open_all(&mut below);
                 Ok(SmallPages {
                     below,
@@ -86,162 +96,41 @@ impl<H: Host> SmallPages<H> {
                     rights: [Right::All; 64],
                 })
             }
-            None => Err(Rejected {
-                refusal: Refusal::Size,
+            Err(refusal) => Err(Rejected {
+                refusal,
                 given: below,
             }),
         }
     }
 
-    // How many small pages a page below makes.
-    fn divisor(&self) -> u32
-        ensures { result ≡ parts_in H.meaning self.now }
-    {
-        let k = self.parts.number();
-        if sizes_fit(self.below.page_count() * k, self.below.page_size() / k) {
-            k
-        } else {
-            1
-        }
-    }
-
-    // The small page of an address.
-    fn page_at(&self, a: u32) -> Result<u32, Refusal>
-        ensures { elim result [ Ok p ↦ (p ≡ page_of (layer_meaning H.meaning self.now) a) × (p < (layer_meaning H.meaning self.now).page_count) × (inside (layer_meaning H.meaning self.now) a ≡ true) | Err e ↦ (e ≡ Outside) × (inside (layer_meaning H.meaning self.now) a ≡ false) ] }
-    {
-        if a >= self.page_count() * self.page_size() {
-            return Err(Refusal::Outside);
-        }
-        Ok(a / self.page_size())
-    }
-
-    // Reads by the second view of the host below.
-    fn see_below(&mut self, a: u32) -> Result<u32, Refusal>
-        ensures answer { result ≡ see_answer (layer_meaning H.meaning self.old) a }
-        ensures after { layer_meaning H.meaning self.new ≡ layer_meaning H.meaning self.old }
-        ensures sizes { SameSizes H.meaning self.old self.new }
-        ensures least { Least H.meaning self.old → Least H.meaning self.new }
-    {
-        self.below.see(a)
-    }
-
-    // Writes by the second view of the host below.
-    fn set_below(&mut self, a: u32, w: u32) -> Result<(), Refusal>
-        ensures answer { result ≡ set_answer (layer_meaning H.meaning self.old) a }
-        ensures after { layer_meaning H.meaning self.new ≡ after_set (layer_meaning H.meaning self.old) a w }
-        ensures sizes { SameSizes H.meaning self.old self.new }
-        ensures least { Least H.meaning self.old → Least H.meaning self.new }
-    {
-        self.below.set(a, w)
-    }
-
-    // The word at an address, whatever the page below allows.
-    fn fetch_below(&mut self, a: u32) -> u32
-        ensures answer { result ≡ (layer_meaning H.meaning self.old).word a }
-        ensures after { layer_meaning H.meaning self.new ≡ layer_meaning H.meaning self.old }
-        ensures sizes { SameSizes H.meaning self.old self.new }
-        ensures least { Least H.meaning self.old → Least H.meaning self.new }
-    {
-        fetch(&mut self.below, a)
-    }
-
-    // Writes the word at an address, whatever the page below allows.
-    fn store_below(&mut self, a: u32, w: u32)
-        ensures after { layer_meaning H.meaning self.new ≡ after_set (layer_meaning H.meaning self.old) a w }
-        ensures sizes { SameSizes H.meaning self.old self.new }
-        ensures least { Least H.meaning self.old → Least H.meaning self.new }
-    {
-        store(&mut self.below, a, w);
-    }
-
     // The right of a small page.
     fn right(&self, p: u32) -> Right
-        requires { p < (layer_meaning H.meaning self.now).page_count }
-        ensures { result ≡ (layer_meaning H.meaning self.now).right p }
+        requires { p < (layer_meaning self.now).page_count }
+        ensures { result ≡ (layer_meaning self.now).right p }
     {
         self.rights[p as usize]
     }
 
-    // The least right of the small pages of a page below.
-    fn lowest_right(&self, page: u32) -> Right
-        requires { page < (below_meaning H.meaning self.now).page_count }
-        ensures { result ≡ lowest (layer_meaning H.meaning self.now).right (page * parts_in H.meaning self.now) (parts_in H.meaning self.now) }
-    {
-        let k = self.divisor();
-        let mut right = Right::All;
-        for i in 0..k {
-            right = right.lesser(self.right(page * k + i));
-        }
-        right
-    }
-
-    // Gives a small page a right. The host below stays.
-    fn mark(&mut self, p: u32, right: Right)
-        requires { p < (layer_meaning H.meaning self.old).page_count }
-        ensures after { layer_meaning H.meaning self.new ≡ with_right (layer_meaning H.meaning self.old) p right }
-        ensures below { self.new.below ≡ self.old.below }
-        ensures parts { self.new.parts ≡ self.old.parts }
-    {
-        self.rights[p as usize] = right;
-    }
-
-    // Lowers the page below a small page.
-    fn lower_below(&mut self, p: u32, right: Right)
-        ensures below { below_meaning H.meaning self.new ≡ after_prot1 (below_meaning H.meaning self.old) (p / parts_in H.meaning self.old) right }
-        ensures parts { self.new.parts ≡ self.old.parts }
-        ensures rights { self.new.rights ≡ self.old.rights }
-    {
-        let page = p / self.divisor();
-        let _ = self.below.prot1(page, right);
-    }
-
-    // Raises the page below a small page to the least right of its small pages.
-    fn raise_below(&mut self, p: u32)
-        requires { p < (layer_meaning H.meaning self.old).page_count }
-        ensures below { below_meaning H.meaning self.new ≡ after_unprot (below_meaning H.meaning self.old) (p / parts_in H.meaning self.old) (lowest (layer_meaning H.meaning self.old).right (p / parts_in H.meaning self.old * parts_in H.meaning self.old) (parts_in H.meaning self.old)) }
-        ensures parts { self.new.parts ≡ self.old.parts }
-        ensures rights { self.new.rights ≡ self.old.rights }
-    {
-        let page = p / self.divisor();
-        let least = self.lowest_right(page);
-        let _ = self.below.unprot(page, least);
-    }
-
-    // Lowers the right of a small page, and that of the page below.
-    fn lower(&mut self, p: u32, right: Right)
-        requires { p < (layer_meaning H.meaning self.old).page_count }
-        ensures after { layer_meaning H.meaning self.new ≡ after_prot1 (layer_meaning H.meaning self.old) p right }
-        ensures sizes { SameSizes H.meaning self.old self.new }
-        ensures least { Least H.meaning self.old → Least H.meaning self.new }
-    {
-        self.mark(p, self.right(p).lesser(right));
-        self.lower_below(p, right);
-    }
-
-    // Raises the right of a small page, and the page below to the least.
-    fn raise(&mut self, p: u32, right: Right)
-        requires { p < (layer_meaning H.meaning self.old).page_count }
-        ensures after { layer_meaning H.meaning self.new ≡ after_unprot (layer_meaning H.meaning self.old) p right }
-        ensures sizes { SameSizes H.meaning self.old self.new }
-        ensures least { Least H.meaning self.old → Least H.meaning self.new }
-    {
-        self.mark(p, self.right(p).greater(right));
-        self.raise_below(p);
-    }
-
     // Whether there are `count` small pages from `first` on.
     fn has_run(&self, first: u32, count: u32) -> bool
-        ensures { result ≡ nat_le (first + count) (layer_meaning H.meaning self.now).page_count }
+        ensures { result ≡ nat_le (first + count) (layer_meaning self.now).page_count }
     {
         let pages = self.page_count();
         first <= pages && count <= pages - first
     }
 }
 
-impl<H: Host> Host for SmallPages<H> {
-    ghost meaning = { layer_meaning H.Host.meaning };
+// That the sizes stay ties the layer before to the one after, so a clause of each call says it, and no fact of the type.
 
-    ghost sized = { λ h. small_sized (H.Host.meaning h.below) h.parts (H.Host.sized h.below) };
+impl<H: Host> Host for SmallPages<H> {
+    ghost use Rattle.std.proofs.Common.{subst, rules};
+    ghost use Rattle.memory.specs.Memory.{look_answer, put_answer, see_answer, set_answer, page_answer, run_answer, after_put, after_prot1, after_protn, after_unprot};
+    ghost use Rattle.small_pages.specs.Layers.{layer_meaning, SameSizes};
+    ghost use Rattle.small_pages.specs.Sizes.{small_extent};
+
+    ghost meaning = { layer_meaning };
+
+    ghost sized = { λ h. h.sized };
 
     ghost narrow = { Prim.search rules };
 
@@ -250,76 +139,70 @@ impl<H: Host> Host for SmallPages<H> {
     ghost shut = { Prim.search rules };
 
     fn page_size(&self) -> u32 {
-        self.below.page_size() / self.divisor()
+        self.below.page_size() / self.parts.number()
     }
 
     fn page_count(&self) -> u32 {
-        self.below.page_count() * self.divisor()
+        self.below.page_count() * self.parts.number()
     }
 
     fn look(&mut self, a: u32) -> Result<u32, Denied>
-        ensures answer { result ≡ look_answer (layer_meaning H.meaning self.old) a }
-        ensures after { layer_meaning H.meaning self.new ≡ layer_meaning H.meaning self.old }
-        ensures sizes { SameSizes H.meaning self.old self.new }
-        ensures least { Least H.meaning self.old → Least H.meaning self.new }
+        ensures answer { result ≡ look_answer (layer_meaning self.old) a }
+        ensures after { layer_meaning self.new ≡ layer_meaning self.old }
+        ensures sizes { SameSizes self.old self.new }
     {
-        let page = self.page_at(a)?;
+        let page = self.page_of(a)?;
         if !self.right(page).reads() {
             return Err(Denied::Fault(page));
         }
-        Ok(self.fetch_below(a))
+        Ok(fetch(&mut self.below, a))
     }
 
     fn put(&mut self, a: u32, w: u32) -> Result<(), Denied>
-        ensures answer { result ≡ put_answer (layer_meaning H.meaning self.old) a }
-        ensures after { layer_meaning H.meaning self.new ≡ after_put (layer_meaning H.meaning self.old) a w }
-        ensures sizes { SameSizes H.meaning self.old self.new }
-        ensures least { Least H.meaning self.old → Least H.meaning self.new }
+        ensures answer { result ≡ put_answer (layer_meaning self.old) a }
+        ensures after { layer_meaning self.new ≡ after_put (layer_meaning self.old) a w }
+        ensures sizes { SameSizes self.old self.new }
     {
-        let page = self.page_at(a)?;
+        let page = self.page_of(a)?;
         if !self.right(page).writes() {
             return Err(Denied::Fault(page));
         }
-        self.store_below(a, w);
+        store(&mut self.below, a, w);
         Ok(())
     }
 
     fn see(&mut self, a: u32) -> Result<u32, Refusal>
-        ensures answer { result ≡ see_answer (layer_meaning H.meaning self.old) a }
-        ensures after { layer_meaning H.meaning self.new ≡ layer_meaning H.meaning self.old }
-        ensures sizes { SameSizes H.meaning self.old self.new }
-        ensures least { Least H.meaning self.old → Least H.meaning self.new }
+        ensures answer { result ≡ see_answer (layer_meaning self.old) a }
+        ensures after { layer_meaning self.new ≡ layer_meaning self.old }
+        ensures sizes { SameSizes self.old self.new }
     {
-        self.see_below(a)
+        self.below.see(a)
     }
 
     fn set(&mut self, a: u32, w: u32) -> Result<(), Refusal>
-        ensures answer { result ≡ set_answer (layer_meaning H.meaning self.old) a }
-        ensures after { layer_meaning H.meaning self.new ≡ after_set (layer_meaning H.meaning self.old) a w }
-        ensures sizes { SameSizes H.meaning self.old self.new }
-        ensures least { Least H.meaning self.old → Least H.meaning self.new }
+        ensures answer { result ≡ set_answer (layer_meaning self.old) a }
+        ensures after { layer_meaning self.new ≡ after_set (layer_meaning self.old) a w }
+        ensures sizes { SameSizes self.old self.new }
     {
-        self.set_below(a, w)
+        self.below.set(a, w)
     }
 
     fn prot1(&mut self, p: u32, right: Right) -> Result<(), Refusal>
-        ensures answer { result ≡ page_answer (layer_meaning H.meaning self.old) p }
-        ensures after { layer_meaning H.meaning self.new ≡ after_prot1 (layer_meaning H.meaning self.old) p right }
-        ensures sizes { SameSizes H.meaning self.old self.new }
-        ensures least { Least H.meaning self.old → Least H.meaning self.new }
+        ensures answer { result ≡ page_answer (layer_meaning self.old) p }
+        ensures after { layer_meaning self.new ≡ after_prot1 (layer_meaning self.old) p right }
+        ensures sizes { SameSizes self.old self.new }
     {
-        if p >= self.page_count() {
-            return Err(Refusal::Outside);
-        }
-        self.lower(p, right);
+        self.check_page(p)?;
+        self.rights[p as usize] = self.right(p).lesser(right);
+        let _ = self.below.prot1(p / self.parts.number(), right);
         Ok(())
     }
 
+    // Not the trait's body, whose proof does not give `sizes`.
     fn protn(&mut self, first: u32, count: u32, right: Right) -> Result<(), Refusal>
-        ensures answer { result ≡ run_answer (layer_meaning H.meaning self.old) first count }
-        ensures after { layer_meaning H.meaning self.new ≡ after_protn (layer_meaning H.meaning self.old) first count right }
-        ensures sizes { SameSizes H.meaning self.old self.new }
-        ensures least { Least H.meaning self.old → Least H.meaning self.new }
+        ensures answer { result ≡ run_answer (layer_meaning self.old) first count }
+        ensures after { layer_meaning self.new ≡ after_protn (layer_meaning self.old) first count right }
+        ensures sizes { SameSizes self.old self.new }
     {
         if count == 0 {
             return Ok(());
@@ -327,23 +210,29 @@ impl<H: Host> Host for SmallPages<H> {
         if !self.has_run(first, count) {
             return Err(Refusal::Outside);
         }
-        let stop = first + count;
-        for p in first..stop {
-            self.lower(p, right);
+        for p in first..first + count {
+            let _ = self.prot1(p, right);
         }
         Ok(())
     }
 
     fn unprot(&mut self, p: u32, right: Right) -> Result<(), Refusal>
-        ensures answer { result ≡ page_answer (layer_meaning H.meaning self.old) p }
-        ensures after { layer_meaning H.meaning self.new ≡ after_unprot (layer_meaning H.meaning self.old) p right }
-        ensures sizes { SameSizes H.meaning self.old self.new }
-        ensures least { Least H.meaning self.old → Least H.meaning self.new }
+        ensures answer { result ≡ page_answer (layer_meaning self.old) p }
+        ensures after { layer_meaning self.new ≡ after_unprot (layer_meaning self.old) p right }
+        ensures sizes { SameSizes self.old self.new }
     {
-        if p >= self.page_count() {
-            return Err(Refusal::Outside);
-        }
-        self.raise(p, right);
+        self.check_page(p)?;
+        let raised = self.right(p).greater(right);
+        let SmallPages {
+            below,
+            parts,
+            rights,
+        } = self;
+        let k = parts.number();
+        let page = p / k;
+        rights[p as usize] = raised;
+        let least = least_of(rights, (page * k) as usize, k as usize);
+        let _ = below.unprot(page, least);
         Ok(())
     }
 }

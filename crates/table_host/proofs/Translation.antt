@@ -1,7 +1,8 @@
 -- Where the words of a table host lie, and what a write or a mark leaves.
 use Rattle.std.proofs.Common.{◌≡◌, ℕ, ◌+◌, ◌*◌, ◌/◌, ◌%◌, ◌^◌, ◌<◌, true, cond, eqb, ltb, List, length, get_or, set, sym, ap, ◌∙◌, ap₂, arith}
-use Rattle.std.proofs.lemmas.Nat.{div-mul-add, mod-mul-add, div-add-mod', div_below, mod_below}
+use Rattle.std.proofs.lemmas.Nat.{div-mul-add, mod-mul-add, div-add-mod', div_below, mod_below, mul-add-lt}
 use Rattle.std.proofs.lemmas.Bool.Decides.{nat_tests}
+use Rattle.std.proofs.lemmas.Grind.{get_or_default_zero}
 use Rattle.std.proofs.lemmas.List.{get_or-set_same, get_or-set_other}
 use Rattle.memory.specs.Memory.{legal_sizes, word_at}
 use Rattle.memory.specs.declared.rights.Right.{Right}
@@ -56,3 +57,14 @@ fresh_word xs es fs count size pos made a =
 
 pub fresh_right : (es fs : List ℕ) (count : ℕ) → FreshEntries count fs es → (p : ℕ) → cond (ltb p count) (entry_right (get_or es p 0)) None ≡ cond (ltb p count) All None
 fresh_right es fs count made p = let here = made p in grind (arith, nat_tests, here)
+
+-- A read of an entry
+
+-- the frame of a page, read at any default, has room for an address
+pub frame_place : (es : List ℕ) (count size page a frame d : ℕ) → legal_sizes count size ≡ true → Within count es → a < count * size → page ≡ a / size → page < length es → frame ≡ entry_frame (get_or es page d) → frame * size + a % size < count * size
+frame_place es count size page a frame d sized within inside e long is =
+    let pos = size_positive count size sized in
+    let below = within page (rw e (div_below a size count pos inside)) in
+    let read = get_or_default_zero es page d long in
+    let low : frame < count = rw (is, read) below in
+    omega (arith, mul-add-lt frame size (a % size) count low (mod_below a size pos))

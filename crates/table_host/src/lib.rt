@@ -1,12 +1,12 @@
 #![tactic(auto)]
 
 ghost use Rattle.std.specs.Prelude.{◌≡◌, ◌<◌, vec_len};
-ghost use Rattle.memory.specs.Memory.{with_word, with_right, page_found};
+ghost use Rattle.memory.specs.Memory.{with_word, with_right};
 ghost use Rattle.table_host.specs.Meaning.{OnPage, table_meaning, translated};
 ghost use Rattle.table_host.specs.Making.{Made};
 ghost use Rattle.std.proofs.Common.{rules};
 
-use entries::{entry_right, fresh_entries, is_frames, with_right};
+use entries::{fresh_entries, is_frames};
 use memory::{Denied, Host, Refusal, Rejected, Right, sizes_fit};
 
 mod entries;
@@ -51,23 +51,13 @@ impl TableHost {
         })
     }
 
-    /// The page of an address.
-    fn page_of(&self, a: u32) -> Result<u32, Refusal>
-        ensures { result ≡ page_found (table_meaning self.now) a }
-    {
-        if a >= self.page_count * self.page_size {
-            return Err(Refusal::Outside);
-        }
-        Ok(a / self.page_size)
-    }
-
     /// Where the word at an address on a page lies in the memory.
     fn translate(&self, page: u32, a: u32) -> usize
         requires { OnPage (table_meaning self.now) page a }
         ensures value { result ≡ translated self.now a }
         ensures within { result < vec_len self.now.memory }
     {
-        let frame = self.entries[page as usize] / 256;
+        let frame = self.entries[page as usize].frame();
         (frame * self.page_size + a % self.page_size) as usize
     }
 
@@ -76,7 +66,7 @@ impl TableHost {
         requires { p < self.now.page_count }
         ensures { result ≡ (table_meaning self.now).right p }
     {
-        entry_right(self.entries[p as usize])
+        self.entries[p as usize].right()
     }
 
     /// Gives a page a right.
@@ -84,8 +74,7 @@ impl TableHost {
         requires { p < self.old.page_count }
         ensures { table_meaning self.new ≡ with_right (table_meaning self.old) p right }
     {
-        let entry = with_right(self.entries[p as usize], right);
-        self.entries[p as usize] = entry;
+        self.entries[p as usize] = self.entries[p as usize].with_right(right);
     }
 
     /// Reads the word at an address, whatever its page allows.
@@ -154,17 +143,13 @@ impl Host for TableHost {
     }
 
     fn prot1(&mut self, p: u32, right: Right) -> Result<(), Refusal> {
-        if p >= self.page_count {
-            return Err(Refusal::Outside);
-        }
+        self.check_page(p)?;
         self.mark(p, self.right(p).lesser(right));
         Ok(())
     }
 
     fn unprot(&mut self, p: u32, right: Right) -> Result<(), Refusal> {
-        if p >= self.page_count {
-            return Err(Refusal::Outside);
-        }
+        self.check_page(p)?;
         self.mark(p, self.right(p).greater(right));
         Ok(())
     }

@@ -2,11 +2,13 @@ ghost use Rattle.std.specs.Prelude.{◌≡◌, ◌*◌, ◌≤◌, true, vec_len
 ghost use Rattle.memory.specs.Memory.{legal_sizes};
 ghost use Rattle.table_host.specs.Entries.{Within, Apart};
 
+use super::entries::Entry;
+
 /// A host that finds each page's frame and right in a page table.
 #[derive(Drop)]
 pub struct TableHost {
     pub(crate) memory: Vec<u32>,
-    pub(crate) entries: [u32; 64],
+    pub(crate) entries: [Entry; 64],
     pub(crate) page_count: u32,
     pub(crate) page_size: u32,
     // The sizes are legal.

@@ -9,6 +9,8 @@ ghost use Rattle.words.specs.Words.{zeroed};
 
 use memory::{Denied, Host, Right};
 
+// That a host stays where it is only read ties the host before to the one after: each such function says it.
+
 // The heap only ever asks for what lies inside its host, and that is a theorem about whole runs. Where it does not know that
 // from the call alone it goes by these functions, which answer outside too: a word there is 0, and a write or a right there is
 // dropped, as the definitions have it.
@@ -18,10 +20,7 @@ pub fn word<H: Host>(host: &mut H, a: u32) -> u32
     ensures value { result ≡ (H.meaning host.old).word a }
     ensures after { H.meaning host.new ≡ H.meaning host.old }
 {
-    match host.see(a) {
-        Ok(word) => word,
-        Err(_) => 0,
-    }
+    host.see(a).unwrap_or(0)
 }
 
 /// Writes the word at an address, by the second view; outside, nothing.
