@@ -8,17 +8,16 @@ use super::root_pass::forward_roots;
 use layouts::Layout;
 use memory::{Host, Right};
 use model::Phase;
-use state::{Plain, other, page_of_half, pages_for, start_of_half};
+use state::{Plain, other, page_of_half, pages_for, start_of_half, words_in_half};
+use std::array;
 use words::{open_pages, page_words, pages_in_half};
 
 // Each page's first word.
-fn page_starts(pages: &mut [u32; 64], size: u32)
+fn page_starts(size: u32) -> [u32; 64]
     requires { size ≤ 256 }
-    ensures { unscanned_view pages.new ≡ starts_view size }
+    ensures { unscanned_view result ≡ starts_view size }
 {
-    for p in 0..64u32 {
-        pages[p as usize] = p * size;
-    }
+    array::from_fn(|page| page as u32 * size)
 }
 
 // Lowers a half and the first pages of the other one to none, and raises the rest of that to all.
@@ -37,7 +36,7 @@ fn words_in_use<H: Host>(host: &H, plain: &Plain) -> u32
     ensures { result ≡ words_used (state_of (H.Host.meaning host.now) plain.now) }
 {
     let start = start_of_half(host, plain.half);
-    let stop = start + pages_in_half(host) * page_words(host);
+    let stop = start + words_in_half(host);
     plain
         .space
         .copy_end
@@ -54,11 +53,11 @@ fn swap_halves<H: Host>(host: &mut H, plain: &mut Plain)
     let old = page_of_half(host, plain.half);
     let new = page_of_half(host, half);
     let start = start_of_half(host, half);
-    let stop = start + pages_in_half(host) * size;
+    let stop = start + words_in_half(host);
     let used = words_in_use(host, plain);
     let closed = pages_for(host, used);
     turn_pages(host, old, new, closed);
-    page_starts(&mut plain.unscanned, size);
+    plain.unscanned = page_starts(size);
     plain.space.copy_end = start;
     plain.half = half;
     plain.new_start = stop;
@@ -72,6 +71,8 @@ fn forward_registers<H: Host, L: Layout>(host: &mut H, layout: &L, plain: &mut P
 {
     forward_roots(host, layout, &mut plain.space, &mut plain.mutators);
 }
+
+// Host, layout and state are lent side by side. As one struct, each contract would have to say that the layout stays.
 
 /// Begins a collection: swaps the halves and forwards the references in the registers. The words copied.
 pub fn begin_collection<H: Host, L: Layout>(host: &mut H, layout: &L, plain: &mut Plain) -> u32

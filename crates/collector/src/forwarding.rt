@@ -1,25 +1,12 @@
 ghost use Rattle.std.specs.Prelude.{◌≡◌, ℕ, ◌+◌, ◌≤◌};
-ghost use Rattle.model.specs.Objects.{object_words};
 ghost use Rattle.model.specs.Forwarding.{crossed, forwarded, new_address, value_forwarded, new_value};
 ghost use Rattle.state.specs.View.{held_value, space_view, moving_of};
 ghost use Rattle.collector.specs.Moves.{with_crossing, advanced, words_moved};
 
 use layouts::Layout;
 use memory::Host;
-use state::{FromAddress, Held, Space, ToAddress};
+use state::{FromAddress, Held, Space, ToAddress, object_words};
 use words::{close_pages, copy_words, page_words, set_word, word};
-
-/// The words of the object with this header, from 1 to 256.
-pub(crate) fn object_words<L: Layout>(layout: &L, header: u32) -> u32
-    ensures value { result ≡ object_words L.Layout.rules header }
-    ensures some { 1 ≤ result }
-    ensures few { result ≤ 256 }
-{
-    match layout.slots(header) {
-        Some(slots) => slots + 1,
-        None => 1,
-    }
-}
 
 // Notes an object's address for each page whose first word is one of its words.
 fn note_crossing(space: &mut Space, size: u32, place: u32, words: u32)
@@ -28,6 +15,7 @@ fn note_crossing(space: &mut Space, size: u32, place: u32, words: u32)
 {
     let first = place.saturating_add(size - 1) / size;
     let last = place.saturating_add(words - 1) / size;
+    // By its number: `take` and `skip` over the map would hide which pages these are.
     for page in first..last.min(63) + 1 {
         space.crossing[page as usize] = place;
     }

@@ -17,7 +17,7 @@ use state::{Plain, page_of_half};
 use words::{open_pages, page_words, pages_in_half};
 
 /// Whether a collection goes on.
-#[derive(Clone, Copy)]
+#[derive(Clone, Copy, Debug, PartialEq, Eq)]
 pub enum Progress {
     Going = 0,
     Ended = 1,
@@ -40,13 +40,11 @@ fn lowest_page<H: Host>(host: &H, plain: &Plain) -> Option<u32>
 {
     let first = page_of_half(host, plain.half);
     let stop = first + pages_in_half(host);
-    for page in first..stop {
-        if is_unscanned(host, plain, page) {
-            return Some(page);
-        }
-    }
-    None
+    (first..stop).find(|&page| is_unscanned(host, plain, page))
 }
+
+// That a page is below 64 is asked as a clause. Pages come from a search over a host's, and a type for them would be made by a
+// test that never fails.
 
 // Where the object with the first unscanned word of a page begins.
 fn head_of_scan<H: Host>(host: &H, plain: &Plain, page: u32) -> u32
@@ -135,21 +133,15 @@ fn finish<H: Host>(host: &mut H, plain: &mut Plain)
     plain.phase = Phase::Idle;
 }
 
-// Ends the collection if no page is left unscanned; `counts` are the words that were scanned and copied before.
-fn finish_if_scanned<H: Host>(
-    host: &mut H,
-    plain: &mut Plain,
-    counts: (u32, u32),
-) -> (Progress, (u32, u32))
-    ensures { step_left (state_of (H.Host.meaning host.old) plain.old) counts (lowest_unscanned (state_of (H.Host.meaning host.old) plain.old)) ≡ outcome (state_of (H.Host.meaning host.new) plain.new) (Answer.Stepped (has_ended result.0) result.1.0 result.1.1) }
+// Ends the collection if no page is left unscanned.
+fn finish_if_scanned<H: Host>(host: &mut H, plain: &mut Plain) -> Progress
+    ensures { (counts : ℕ × ℕ) → step_left (state_of (H.Host.meaning host.old) plain.old) counts (lowest_unscanned (state_of (H.Host.meaning host.old) plain.old)) ≡ outcome (state_of (H.Host.meaning host.new) plain.new) (Answer.Stepped (has_ended result) counts.0 counts.1) }
 {
-    match lowest_page(host, plain) {
-        Some(_) => (Progress::Going, counts),
-        None => {
-            finish(host, plain);
-            (Progress::Ended, counts)
-        }
+    if lowest_page(host, plain).is_some() {
+        return Progress::Going;
     }
+    finish(host, plain);
+    Progress::Ended
 }
 
 /// Scans the lowest page with unscanned words, if there is one, and ends the collection if none is left then: whether it
@@ -165,5 +157,5 @@ pub fn step_collection<H: Host, L: Layout>(
         Some(page) => scan_page(host, layout, plain, page),
         None => (0, 0),
     };
-    finish_if_scanned(host, plain, counts)
+    (finish_if_scanned(host, plain), counts)
 }

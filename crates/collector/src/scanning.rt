@@ -3,20 +3,17 @@ ghost use Rattle.model.specs.Objects.{packed_word};
 ghost use Rattle.model.specs.Scanning.{slot_scanned, word_scanned, head_at, run_scanned};
 ghost use Rattle.state.specs.View.{space_view, moving_of};
 
-use super::forwarding::{forward, object_words};
+use super::forwarding::forward;
 use layouts::{Layout, Value};
 use memory::Host;
-use state::{FromAddress, Space};
+use state::{FromAddress, Space, object_words};
 use words::{set_word, word};
 
 /// The word of a value in a slot, 0 where it is not admitted.
 pub fn packed_word<L: Layout>(layout: &L, header: u32, slot: u32, value: Value) -> u32
     ensures { result ≡ packed_word L.Layout.rules header slot value }
 {
-    match layout.pack(header, slot, value) {
-        Ok(word) => word,
-        Err(_) => 0,
-    }
+    layout.pack(header, slot, value).unwrap_or(0)
 }
 
 // The address of the header of the object with this word, given that of the word before.
@@ -84,6 +81,7 @@ pub fn scan_words<H: Host, L: Layout>(
 ) -> u32
     ensures { (moving_of (H.Host.meaning host.new) space.new, result) ≡ run_scanned L.Layout.rules (stop - from) stop (moving_of (H.Host.meaning host.old) space.old) head from }
 {
+    // Not `for`: where the words end moves as they are scanned.
     let mut object = head;
     let mut at = from;
     'run: while is_copied(at, stop, space) {

@@ -1,9 +1,8 @@
 -- A heap as MAKE leaves it.
 use Rattle.std.proofs.Common.{◌≡◌, ℕ, zero, suc, ◌+◌, ◌/◌, ◌%◌, ◌≤◌, cond, ltb, get_or, replicate, refl, ap, ◌∙◌, inl, inr, arith}
-use lib.ListN.{length-replicate}
 use Rattle.std.proofs.lemmas.Bool.{cases_lt, cond-true, lt-ltb}
 use Rattle.std.proofs.lemmas.Bool.Decides.{nat_tests}
-use Rattle.std.proofs.lemmas.List.{get_or-replicate, get_or_past}
+use Rattle.std.proofs.lemmas.List.{get_or-replicate}
 use Rattle.memory.proofs.Memories.{same_memory, after_set_inside}
 use Rattle.memory.specs.Memory.{Memory, extent, with_right, lowered_run, after_set, after_protn, after_unprot}
 use Rattle.memory.specs.Rights.{lesser, greater}
@@ -16,17 +15,12 @@ use Rattle.model.specs.Collecting.{opened}
 use Rattle.model.specs.Calls.{fresh_memory}
 use Rattle.model.specs.declared.states.State.TheVariants.{Running}
 use Rattle.heap.specs.Making.{cleared}
+use Rattle.state.proofs.Blank.{past, blank_at}
 use Rattle.state.specs.View.{held_value, no_such, register_view, state_view}
 use Rattle.state.specs.declared.mutators.Held.TheVariants.{Nil}
 use Rattle.state.specs.declared.mutators.Mutator.{Mutator}
 
 -- Tables
-
-past : {A : Type 0} (n q : ℕ) (x d : A) → n ≤ q → get_or (replicate n x) q d ≡ d
-past n q x d h = get_or_past (replicate n x) q d (rw (length-replicate n x) h)
-
-pub blank_at : {A : Type 0} (n q : ℕ) (x : A) → get_or (replicate n x) q x ≡ x
-blank_at n q x = elim (cases_lt q n) [ inl h ↦ get_or-replicate n q x x h | inr h ↦ past n q x x h ]
 
 abbrev pub fresh_mutator : Mutator
 fresh_mutator = record { registers = replicate 8 Nil; state = Running }

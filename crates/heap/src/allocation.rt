@@ -12,10 +12,11 @@ ghost use Rattle.heap.specs.Effects.{Does, access_answer};
 
 use super::heap_state::{Access, Heap};
 use collector::packed_word;
+use images::lowest_unsaved;
 use layouts::{Layout, Value};
 use memory::{Host, Refusal};
 use model::Phase;
-use state::{Held, ToAddress, pages_for, start_of_half};
+use state::{Held, MutatorName, RegisterName, ToAddress, pages_for, start_of_half};
 use words::{page_words, put_behind};
 
 // What a slot of a new object holds.
@@ -55,14 +56,6 @@ fn put_object<H: Host, L: Layout>(
     }
 }
 
-// The lowest unsaved page from one page on up to another.
-fn lowest_unsaved(unsaved: &[bool; 64], first: u32, stop: u32) -> Option<u32>
-    requires { stop ≤ 64 }
-    ensures { result ≡ lowest (stop - first) first (unsaved_view unsaved.now) }
-{
-    images::lowest_unsaved(unsaved, first, stop)
-}
-
 impl<H: Host, L: Layout> Heap<H, L> {
     // The first word of to-space.
     fn to_start(&self) -> u32
@@ -93,11 +86,7 @@ impl<H: Host, L: Layout> Heap<H, L> {
         };
         let size = page_words(&self.host);
         let last = at.saturating_add(words.saturating_sub(1)) / size;
-        lowest_unsaved(
-            &self.plain.unsaved,
-            at / size,
-            last.saturating_add(1).min(64),
-        )
+        lowest_unsaved(&self.plain.unsaved, at / size, last.saturating_add(1))
     }
 
     // Writes a new object below the others.
@@ -116,9 +105,8 @@ impl<H: Host, L: Layout> Heap<H, L> {
         ensures does { Does L.Layout.rules (view H.Host.meaning self.old) (Call.New m d r w) (view H.Host.meaning self.new) (access_answer result) }
         ensures layout { self.new.layout ≡ self.old.layout }
     {
-        if m > 3 || d > 7 {
-            return Err(Refusal::Name);
-        }
+        let m = MutatorName::try_from(m)?;
+        let d = RegisterName::try_from(d)?;
         let header = new_header(&self.layout, r, w)?;
         if !self.plain.is_running(m) {
             return Err(Refusal::Waits);

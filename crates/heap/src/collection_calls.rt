@@ -16,10 +16,8 @@ impl<H: Host, L: Layout> Heap<H, L> {
     fn all_running(&self) -> bool
         ensures { result ≡ all_running (moving_view L.Layout.rules (view H.Host.meaning self.now)) }
     {
-        self.plain.is_running(0)
-            && self.plain.is_running(1)
-            && self.plain.is_running(2)
-            && self.plain.is_running(3)
+        let [first, second, third, fourth] = &self.plain.mutators;
+        first.runs() && second.runs() && third.runs() && fourth.runs()
     }
 
     /// FLIP: begins a collection, and answers the words copied.

@@ -12,7 +12,7 @@ use images::save_if_unsaved;
 use layouts::Layout;
 use memory::{Host, Refusal};
 use model::{Phase, State};
-use state::Event;
+use state::{Event, MutatorName};
 
 // The page that a mutator waits on or is in hand with; 0 if it runs.
 fn page_of(state: State) -> u32
@@ -31,16 +31,12 @@ impl<H: Host, L: Layout> Heap<H, L> {
         ensures fault { FaultOf m result }
         ensures layout { self.new.layout ≡ self.old.layout }
     {
-        if m > 3 {
-            return Err(Refusal::Name);
-        }
-        match self.advance(m, Event::Take) {
-            Some(state) => Ok(Fault {
-                mutator: m,
-                page: page_of(state),
-            }),
-            None => Err(Refusal::NoFault),
-        }
+        let m = MutatorName::try_from(m)?.number();
+        let state = self.advance(m, Event::Take).ok_or(Refusal::NoFault)?;
+        Ok(Fault {
+            mutator: m,
+            page: page_of(state),
+        })
     }
 
     // Does what the phase asks of a fault's page: scans it if collecting and a word there is unscanned, saves it if imaging and

@@ -8,8 +8,8 @@ ghost use Rattle.heap.specs.Making.{Made, Restored, cleared};
 use super::heap_state::Heap;
 use layouts::Layout;
 use memory::{Host, Refusal, Rejected, Right};
-use model::{Half, Phase, State};
-use state::{Held, Mutator, Plain, Space};
+use model::{Half, State};
+use state::{Held, Mutator, Plain, words_in_half};
 use words::{open_pages, page_words, pages_in_half, zero_words};
 
 // The state of a heap with no objects, whose to-space ends at an address.
@@ -20,21 +20,7 @@ fn fresh_plain(new_start: u32) -> Plain
         registers: [Held::Nil; 8],
         state: State::Running,
     };
-    Plain {
-        mutators: [mutator; 4],
-        space: Space {
-            copy_end: 0,
-            crossing: [0; 64],
-        },
-        half: Half::Lower,
-        new_start,
-        unscanned: [0; 64],
-        flip_used: 0,
-        unsaved: [false; 64],
-        mark_start: 0,
-        phase: Phase::Idle,
-        traps: 0,
-    }
+    Plain::idle([mutator; 4], Half::Lower, 0, new_start)
 }
 
 // Sets every word to 0, the first half to all and the second to none.
@@ -60,7 +46,7 @@ impl<H: Host, L: Layout> Heap<H, L> {
             });
         }
         clear(&mut host);
-        let half_words = pages_in_half(&host) * page_words(&host);
+        let half_words = words_in_half(&host);
         Ok(Heap {
             host,
             layout,

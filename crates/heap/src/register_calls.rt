@@ -11,29 +11,7 @@ use super::heap_state::Heap;
 use layouts::Layout;
 use memory::{Host, Refusal};
 use model::Kind;
-use state::Held;
-
-// Whether two registers hold the same: two nils, equal numbers or one object.
-fn same_held(a: Held, b: Held) -> bool
-    ensures { result ≡ same_value (held_value a) (held_value b) }
-{
-    match (a, b) {
-        (Held::Nil, Held::Nil) => true,
-        (Held::Number(m), Held::Number(n)) => m == n,
-        (Held::Reference(p), Held::Reference(q)) => p.0 == q.0,
-        _ => false,
-    }
-}
-
-fn kind_held(held: Held) -> Kind
-    ensures { result ≡ kind_of (held_value held) }
-{
-    match held {
-        Held::Nil => Kind::Nil,
-        Held::Number(n) => Kind::Number(n),
-        Held::Reference(_) => Kind::Reference,
-    }
-}
+use state::{Held, MutatorName, RegisterName};
 
 impl<H: Host, L: Layout> Heap<H, L> {
     /// COPY: puts what register s of mutator f holds into register d of mutator m. Only m has to run.
@@ -41,9 +19,10 @@ impl<H: Host, L: Layout> Heap<H, L> {
         ensures does { Does L.Layout.rules (view H.Host.meaning self.old) (Call.Copy m d f s) (view H.Host.meaning self.new) (done_answer result) }
         ensures layout { self.new.layout ≡ self.old.layout }
     {
-        if m > 3 || d > 7 || f > 3 || s > 7 {
-            return Err(Refusal::Name);
-        }
+        let m = MutatorName::try_from(m)?;
+        let d = RegisterName::try_from(d)?;
+        let f = MutatorName::try_from(f)?;
+        let s = RegisterName::try_from(s)?;
         if !self.plain.is_running(m) {
             return Err(Refusal::Waits);
         }
@@ -57,9 +36,8 @@ impl<H: Host, L: Layout> Heap<H, L> {
         ensures does { Does L.Layout.rules (view H.Host.meaning self.old) (Call.SetNumber m d number) (view H.Host.meaning self.new) (done_answer result) }
         ensures layout { self.new.layout ≡ self.old.layout }
     {
-        if m > 3 || d > 7 {
-            return Err(Refusal::Name);
-        }
+        let m = MutatorName::try_from(m)?;
+        let d = RegisterName::try_from(d)?;
         if !self.plain.is_running(m) {
             return Err(Refusal::Waits);
         }
@@ -72,9 +50,8 @@ impl<H: Host, L: Layout> Heap<H, L> {
         ensures does { Does L.Layout.rules (view H.Host.meaning self.old) (Call.SetNil m d) (view H.Host.meaning self.new) (done_answer result) }
         ensures layout { self.new.layout ≡ self.old.layout }
     {
-        if m > 3 || d > 7 {
-            return Err(Refusal::Name);
-        }
+        let m = MutatorName::try_from(m)?;
+        let d = RegisterName::try_from(d)?;
         if !self.plain.is_running(m) {
             return Err(Refusal::Waits);
         }
@@ -86,26 +63,25 @@ impl<H: Host, L: Layout> Heap<H, L> {
     pub fn same(&self, m: u32, a: u32, b: u32) -> Result<bool, Refusal>
         ensures { Does L.Layout.rules (view H.Host.meaning self.now) (Call.Same m a b) (view H.Host.meaning self.now) (same_answer result) }
     {
-        if m > 3 || a > 7 || b > 7 {
-            return Err(Refusal::Name);
-        }
+        let m = MutatorName::try_from(m)?;
+        let a = RegisterName::try_from(a)?;
+        let b = RegisterName::try_from(b)?;
         if !self.plain.is_running(m) {
             return Err(Refusal::Waits);
         }
-        Ok(same_held(self.plain.register(m, a), self.plain.register(m, b)))
+        Ok(self.plain.register(m, a) == self.plain.register(m, b))
     }
 
     /// TELL: nil, reference, or the number that a register holds.
     pub fn tell(&self, m: u32, s: u32) -> Result<Kind, Refusal>
         ensures { Does L.Layout.rules (view H.Host.meaning self.now) (Call.Tell m s) (view H.Host.meaning self.now) (tell_answer result) }
     {
-        if m > 3 || s > 7 {
-            return Err(Refusal::Name);
-        }
+        let m = MutatorName::try_from(m)?;
+        let s = RegisterName::try_from(s)?;
         if !self.plain.is_running(m) {
             return Err(Refusal::Waits);
         }
-        Ok(kind_held(self.plain.register(m, s)))
+        Ok(Kind::from(self.plain.register(m, s)))
     }
 
     /// COUNT: how often a call trapped since the heap was made; it stays at 4294967295.

@@ -12,12 +12,11 @@ use super::heap_state::{Access, Heap};
 use layouts::Layout;
 use memory::{Denied, Host, Refusal};
 use model::State;
-use state::{Event, Held, ToAddress, next_state};
+use state::{Event, Held, MutatorName, RegisterName, next_state};
 
 impl<H: Host, L: Layout> Heap<H, L> {
     /// Puts a value into a register.
-    pub(crate) fn hold(&mut self, m: u32, r: u32, held: Held)
-        requires { (m < 4) × (r < 8) }
+    pub(crate) fn hold(&mut self, m: MutatorName, r: RegisterName, held: Held)
         ensures after { view H.Host.meaning self.new ≡ with_register (view H.Host.meaning self.old) m r (held_value held) }
         ensures layout { self.new.layout ≡ self.old.layout }
     {
@@ -25,8 +24,7 @@ impl<H: Host, L: Layout> Heap<H, L> {
     }
 
     /// Moves a mutator to a state.
-    fn move_to(&mut self, m: u32, state: State)
-        requires { m < 4 }
+    fn move_to(&mut self, m: MutatorName, state: State)
         ensures after { view H.Host.meaning self.new ≡ with_state (view H.Host.meaning self.old) m state }
         ensures layout { self.new.layout ≡ self.old.layout }
     {
@@ -39,27 +37,23 @@ impl<H: Host, L: Layout> Heap<H, L> {
         ensures after { view H.Host.meaning self.new ≡ advanced (view H.Host.meaning self.old) m event }
         ensures layout { self.new.layout ≡ self.old.layout }
     {
-        if m > 3 {
-            return None;
-        }
-        let state = next_state(self.plain.mutators[m as usize].state, event)?;
+        let m = MutatorName::try_from(m).ok()?;
+        let state = next_state(self.plain.state(m), event)?;
         self.move_to(m, state);
         Some(state)
     }
 
     /// Traps a mutator on a page.
-    pub(crate) fn trap(&mut self, m: u32, page: u32)
-        requires { m < 4 }
+    pub(crate) fn trap(&mut self, m: MutatorName, page: u32)
         ensures after { view H.Host.meaning self.new ≡ (trapped (view H.Host.meaning self.old) m page).left }
         ensures layout { self.new.layout ≡ self.old.layout }
     {
-        let _ = self.advance(m, Event::Trap(page));
+        let _ = self.advance(m.number(), Event::Trap(page));
         self.plain.traps = self.plain.traps.saturating_add(1);
     }
 
     /// Ends an access that the host denied: a fault traps the mutator on its page.
-    pub(crate) fn deny(&mut self, m: u32, denied: Denied) -> Result<Access, Refusal>
-        requires { m < 4 }
+    pub(crate) fn deny(&mut self, m: MutatorName, denied: Denied) -> Result<Access, Refusal>
         ensures ends { denied_outcome (view H.Host.meaning self.old) m denied ≡ outcome (view H.Host.meaning self.new) (access_answer result) }
         ensures layout { self.new.layout ≡ self.old.layout }
     {

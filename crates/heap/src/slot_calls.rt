@@ -10,45 +10,17 @@ use super::heap_state::{Access, Heap, Object};
 use collector::packed_word;
 use layouts::{Layout, Value};
 use memory::{Host, Refusal};
-use state::{Held, ToAddress};
+use state::{Held, MutatorName, RegisterName, slot_count};
 use words::{look_behind, put_behind, word};
-
-// A register's value, as a layout has it.
-fn value_of(held: Held) -> Value
-    ensures { result ≡ held_value held }
-{
-    match held {
-        Held::Nil => Value::Nil,
-        Held::Number(n) => Value::Number(n),
-        Held::Reference(a) => Value::Reference(a.0),
-    }
-}
-
-// A slot's value, as a register holds it. A mutator's slots lie on scanned pages, so their references are to to-space.
-fn held_of(value: Value) -> Held
-    ensures { held_value result ≡ value }
-{
-    match value {
-        Value::Nil => Held::Nil,
-        Value::Number(n) => Held::Number(n),
-        Value::Reference(a) => Held::Reference(ToAddress(a)),
-    }
-}
-
-// The slots behind a header; a word that is no header has none.
-fn slots_behind<L: Layout>(layout: &L, header: u32) -> u32
-    ensures { result ≡ slot_count L.Layout.rules header }
-{
-    match layout.slots(header) {
-        Some(slots) => slots,
-        None => 0,
-    }
-}
 
 impl<H: Host, L: Layout> Heap<H, L> {
     // The object in register s of mutator m, which runs, if it has slot i.
-    fn object_with_slot(&mut self, m: u32, s: u32, i: u32) -> Result<Object, Refusal>
-        requires { (m < 4) × (s < 8) }
+    fn object_with_slot(
+        &mut self,
+        m: MutatorName,
+        s: RegisterName,
+        i: u32,
+    ) -> Result<Object, Refusal>
         ensures found { HoldsSlot L.Layout.rules (view H.Host.meaning self.old) m s i result }
         ensures after { view H.Host.meaning self.new ≡ view H.Host.meaning self.old }
         ensures plain { self.new.plain ≡ self.old.plain }
@@ -57,11 +29,9 @@ impl<H: Host, L: Layout> Heap<H, L> {
         if !self.plain.is_running(m) {
             return Err(Refusal::Waits);
         }
-        let Some(address) = self.plain.reference(m, s) else {
-            return Err(Refusal::NoReference);
-        };
+        let address = self.plain.reference(m, s).ok_or(Refusal::NoReference)?;
         let header = word(&mut self.host, address.0);
-        if i >= slots_behind(&self.layout, header) {
+        if i >= slot_count(&self.layout, header) {
             return Err(Refusal::Slot);
         }
         Ok(Object { address, header })
@@ -72,14 +42,14 @@ impl<H: Host, L: Layout> Heap<H, L> {
         ensures does { Does L.Layout.rules (view H.Host.meaning self.old) (Call.Load m d s i) (view H.Host.meaning self.new) (access_answer result) }
         ensures layout { self.new.layout ≡ self.old.layout }
     {
-        if m > 3 || d > 7 || s > 7 {
-            return Err(Refusal::Name);
-        }
+        let m = MutatorName::try_from(m)?;
+        let d = RegisterName::try_from(d)?;
+        let s = RegisterName::try_from(s)?;
         let object = self.object_with_slot(m, s, i)?;
         match look_behind(&mut self.host, object.address.0, i + 1) {
             Ok(word) => {
                 let value = self.layout.unpack(object.header, i, word);
-                self.hold(m, d, held_of(value));
+                self.hold(m, d, Held::from(value));
                 Ok(Access::Done)
             }
             Err(denied) => self.deny(m, denied),
@@ -91,11 +61,11 @@ impl<H: Host, L: Layout> Heap<H, L> {
         ensures does { Does L.Layout.rules (view H.Host.meaning self.old) (Call.Store m s i v) (view H.Host.meaning self.new) (access_answer result) }
         ensures layout { self.new.layout ≡ self.old.layout }
     {
-        if m > 3 || s > 7 || v > 7 {
-            return Err(Refusal::Name);
-        }
+        let m = MutatorName::try_from(m)?;
+        let s = RegisterName::try_from(s)?;
+        let v = RegisterName::try_from(v)?;
         let object = self.object_with_slot(m, s, i)?;
-        let value = value_of(self.plain.register(m, v));
+        let value = Value::from(self.plain.register(m, v));
         if !self.layout.admits(object.header, i, value) {
             return Err(Refusal::Misfit);
         }

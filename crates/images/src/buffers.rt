@@ -4,7 +4,7 @@ ghost use Rattle.model.specs.Images.{image_words};
 ghost use Rattle.images.specs.Lent.{Rewritten};
 
 use memory::Host;
-use words::{page_words, pages_in_half};
+use state::words_in_half;
 
 /// The words of an image before those of to-space: its sizes, its layout and the registers.
 pub(crate) const PREAMBLE_WORDS: u32 = 70;
@@ -14,7 +14,7 @@ pub fn image_words<H: Host>(host: &H) -> u32
     ensures value { result ≡ image_words (H.Host.meaning host.now) }
     ensures few { result ≤ 8262 }
 {
-    PREAMBLE_WORDS + pages_in_half(host) * page_words(host)
+    PREAMBLE_WORDS + words_in_half(host)
 }
 
 /// Whether a buffer has fewer words than an image takes.

@@ -13,7 +13,10 @@ use layouts::Layout;
 use memory::{Host, Refusal, Right};
 use model::Phase;
 use state::{Plain, page_of_half};
+use std::array;
 use words::{page_words, pages_in_half};
+
+// Host, layout and state side by side, and a page below 64 as a clause, as in the collector.
 
 // Whether a page of to-space has a word of a copied or of a new object.
 fn is_used_page<H: Host>(host: &H, plain: &Plain, page: u32) -> bool
@@ -32,11 +35,7 @@ fn is_used_page<H: Host>(host: &H, plain: &Plain, page: u32) -> bool
 fn used_pages<H: Host>(host: &H, plain: &Plain) -> [bool; 64]
     ensures { unsaved_view result ≡ is_used_page (state_of (H.Host.meaning host.now) plain.now) }
 {
-    let mut used = [false; 64];
-    for page in 0..64u32 {
-        used[page as usize] = is_used_page(host, plain, page);
-    }
-    used
+    array::from_fn(|page| is_used_page(host, plain, page as u32))
 }
 
 // Lowers a page to read, if it is unsaved.
@@ -53,6 +52,7 @@ fn lower_pages<H: Host>(host: &mut H, unsaved: &[bool; 64], first: u32, count: u
     requires { first + count ≤ 64 }
     ensures { H.Host.meaning host.new ≡ lowered (unsaved_view unsaved.now) count (H.Host.meaning host.old) first }
 {
+    // By their numbers, which the host goes by too.
     for i in 0..count {
         lower_page(host, first + i, unsaved[(first + i) as usize]);
     }

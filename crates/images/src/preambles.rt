@@ -1,5 +1,5 @@
 ghost use Rattle.std.specs.Prelude.{◌≡◌, ◌+◌, ◌-◌, ◌/◌, ◌<◌, ◌≤◌, length};
-ghost use Rattle.model.specs.Heap.{copied_words, new_words, half_number};
+ghost use Rattle.model.specs.Heap.{copied_words, new_words};
 ghost use Rattle.model.specs.Images.{image_words, kind_number, payload, register_word, preamble, marked_buffer};
 ghost use Rattle.state.specs.View.{held_value, register_view, state_of};
 ghost use Rattle.images.specs.Lent.{Rewritten};
@@ -7,18 +7,11 @@ ghost use Rattle.images.specs.Lent.{Rewritten};
 use super::buffers::{image_words, write_word};
 use layouts::Layout;
 use memory::Host;
-use model::Half;
-use state::{Held, Mutator, Plain, start_of_half};
-use words::{page_words, pages_in_half};
+use state::{Held, Mutator, Plain, start_of_half, words_in_half};
+use words::pages_in_half;
 
-// The number of a half in an image.
-fn half_number(half: Half) -> u32
-    ensures { result ≡ half_number half }
-{
-    half as u32
-}
-
-// The kind of what a register holds, in an image.
+// The kind of what a register holds, in an image. It and the payload are functions, since a `u32` made by `From` would not say
+// which of the two it is.
 fn kind_number(held: Held) -> u32
     ensures { result ≡ kind_number (held_value held) }
 {
@@ -68,7 +61,7 @@ fn copied_words<H: Host>(host: &H, plain: &Plain) -> u32
 fn new_words<H: Host>(host: &H, plain: &Plain) -> u32
     ensures { result ≡ new_words (state_of (H.Host.meaning host.now) plain.now) }
 {
-    let stop = start_of_half(host, plain.half) + pages_in_half(host) * page_words(host);
+    let stop = start_of_half(host, plain.half) + words_in_half(host);
     stop.saturating_sub(plain.new_start)
 }
 
@@ -80,7 +73,7 @@ fn preamble_word<H: Host, L: Layout>(host: &H, layout: &L, plain: &Plain, j: u32
     match j {
         1 => pages_in_half(host),
         2 => layout.number(),
-        3 => half_number(plain.half),
+        3 => u32::from(plain.half),
         4 => copied_words(host, plain),
         5 => new_words(host, plain),
         6..=69 => register_word(&plain.mutators, j),
@@ -98,6 +91,7 @@ pub(crate) fn write_preamble<H: Host, L: Layout>(
     requires { image_words (H.Host.meaning host.now) ≤ length buffer.old }
     ensures { Rewritten (marked_buffer L.Layout.rules (state_of (H.Host.meaning host.now) plain.now)) buffer.old buffer.new }
 {
+    // By their numbers, which tell what each word is.
     for j in 0..image_words(host) {
         let word = preamble_word(host, layout, plain, j);
         write_word(buffer, j, word);

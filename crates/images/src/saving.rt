@@ -4,7 +4,7 @@ ghost use Rattle.model.specs.Heap.{with_phase};
 ghost use Rattle.model.specs.Scanning.{lowest};
 ghost use Rattle.model.specs.Outcomes.{outcome};
 ghost use Rattle.model.specs.Images.{image_words, saved_buffer, lowest_unsaved, save_left};
-ghost use Rattle.model.specs.declared.calls.Answer.TheVariants as Answer;
+ghost use Rattle.model.specs.declared.calls.Answer.TheVariants as Answers;
 ghost use Rattle.model.specs.declared.calls.Call.TheVariants as Call;
 ghost use Rattle.model.specs.declared.states.Phase.TheVariants.{Idle};
 ghost use Rattle.state.specs.View.{unsaved_view, state_of};
@@ -14,18 +14,32 @@ ghost use Rattle.images.specs.Saving.{is_none, imaged_of, has_word, HoldsWord, w
 use super::buffers::{PREAMBLE_WORDS, is_short, write_word};
 use layouts::Layout;
 use memory::{Host, Refusal, Right};
-use model::Phase;
-use state::{Plain, page_of_half, start_of_half};
+use model::{Answer, Phase};
+use state::{Plain, page_of_half, start_of_half, words_in_half};
 use words::{page_words, pages_in_half, word};
 
 /// Whether a SAVE sealed the image, or another is due.
-#[derive(Clone, Copy)]
+#[derive(Clone, Copy, Debug, PartialEq, Eq)]
 pub enum Seal {
     /// A page is left to save.
     Going = 0,
     /// The image is whole.
     Sealed = 1,
 }
+
+/// The answer of a SAVE.
+impl From<Seal> for Answer {
+    ghost use Rattle.std.specs.Prelude.{Ok};
+    ghost use Rattle.images.specs.Lent.{save_answer};
+
+    ghost from_gives = { λ seal answer. answer ≡ save_answer (Ok seal) };
+
+    fn from(seal: Seal) -> Answer {
+        Answer::Saved(seal == Seal::Sealed)
+    }
+}
+
+// Not the outline of an image that is restored, which says how its four numbers lie: a heap's state does not say that here.
 
 // Which words of to-space an image has: where to-space begins, its words, and the gap between the copied and the new ones.
 #[derive(Clone, Copy)]
@@ -43,7 +57,7 @@ fn image_part<H: Host>(host: &H, plain: &Plain) -> Imaged
 {
     Imaged {
         start: start_of_half(host, plain.half),
-        words: pages_in_half(host) * page_words(host),
+        words: words_in_half(host),
         copy_end: plain.space.copy_end,
         mark_start: plain.mark_start,
     }
@@ -67,6 +81,8 @@ fn image_word<H: Host>(host: &mut H, of: Imaged, a: u32) -> Option<u32>
         None
     }
 }
+
+// That the buffer has an image's words is a fact of host and buffer together, so a clause says it, and no type.
 
 // Saves the word at an address, if the image has it.
 fn save_word<H: Host>(host: &mut H, buffer: &mut [u32], of: Imaged, a: u32)
@@ -136,12 +152,7 @@ pub fn lowest_unsaved(unsaved: &[bool; 64], first: u32, stop: u32) -> Option<u32
     ensures value { result ≡ lowest (min stop 64 - first) first (unsaved_view unsaved.now) }
     ensures few { Few result }
 {
-    for page in first..stop.min(64) {
-        if unsaved[page as usize] {
-            return Some(page);
-        }
-    }
-    None
+    (first..stop.min(64)).find(|&page| unsaved[page as usize])
 }
 
 // The lowest page that the image in progress has yet to save.
@@ -157,10 +168,7 @@ fn next_page<H: Host>(host: &H, plain: &Plain) -> Option<u32>
 fn all_saved<H: Host>(host: &H, plain: &Plain) -> bool
     ensures { result ≡ is_none (lowest_unsaved (state_of (H.Host.meaning host.now) plain.now)) }
 {
-    match next_page(host, plain) {
-        Some(_) => false,
-        None => true,
-    }
+    next_page(host, plain).is_none()
 }
 
 // Seals the image: its first word is the page size.
@@ -176,7 +184,7 @@ fn seal_image<H: Host>(host: &H, plain: &mut Plain, buffer: &mut [u32])
 // Seals the image if every page is saved.
 fn seal_if_saved<H: Host>(host: &H, plain: &mut Plain, buffer: &mut [u32]) -> Seal
     requires { image_words (H.Host.meaning host.now) ≤ length buffer.old }
-    ensures { (b : ℕ → ℕ) → save_left (machine (state_of (H.Host.meaning host.now) plain.old) buffer.old b) (lowest_unsaved (state_of (H.Host.meaning host.now) plain.old)) ≡ outcome (machine (state_of (H.Host.meaning host.now) plain.new) buffer.new b) (Answer.Saved (is_sealed result)) }
+    ensures { (b : ℕ → ℕ) → save_left (machine (state_of (H.Host.meaning host.now) plain.old) buffer.old b) (lowest_unsaved (state_of (H.Host.meaning host.now) plain.old)) ≡ outcome (machine (state_of (H.Host.meaning host.now) plain.new) buffer.new b) (Answers.Saved (is_sealed result)) }
 {
     if !all_saved(host, plain) {
         return Seal::Going;

@@ -1,127 +1,51 @@
--- One turn of a walk over a row of objects: t turns in all, i of them made, the walk at a. What is left leads to the whole.
-use Rattle.std.proofs.Common.{◌≡◌, ℕ, suc, ◌+◌, ◌-◌, ◌<◌, ◌≤◌, Bool, true, false, ◌&&◌, eqb, leb, sym, ap, ◌∙◌, arith}
-use Rattle.std.proofs.lemmas.Bool.{eq-eqb, ne_eqb, lt-ltb, le-ltb}
+-- What is asked of a row of objects is asked of each header in it.
+use Rattle.std.proofs.Common.{◌≡◌, ℕ, zero, suc, ◌+◌, ◌≤◌, Bool, true, false, cond, ◌&&◌, ◌||◌, eqb, leb, ltb, List, [], ◌∷◌, refl, ap, ◌∙◌, inl, inr, arith}
+use Rattle.std.proofs.lemmas.Bool.{cases_lt, eq-eqb, ne_eqb, lt-ltb, le-ltb, leb-true, and_parts}
+use Rattle.std.specs.List.{list_any, list_all}
 use Rattle.layouts.specs.Layouts.{Rules}
 use Rattle.layouts.specs.declared.values.Value.{Value}
-use Rattle.model.specs.Objects.{is_header, object_words, slot_count}
-use Rattle.model.specs.Restoring.{every_below, is_row, heads_row, slots_pass}
+use Rattle.model.specs.Objects.{is_header, object_words}
+use Rattle.model.specs.Restoring.{is_row, heads_row, slots_pass}
+use Rattle.restoring.specs.Rows.{headers, ends_by, object_passes}
 
-module _ (L : Rules) (word : ℕ → ℕ) (t i a stop : ℕ) where
-  -- Whole objects in a row
+any_first : (b : Bool) (f : ℕ → Bool) (a : ℕ) (xs : List ℕ) → (b && (f a || list_any f xs)) ≡ list_any f (cond b (a ∷ xs) [])
+any_first true f a xs = refl
+any_first false f a xs = refl
 
-  -- a word at a is the header of an object that ends by stop
-  abbrev ends_by : ℕ → Bool
-  ends_by x = is_header L x && leb (a + object_words L x) stop
+all_first : (b : Bool) (f : ℕ → Bool) (a : ℕ) (xs : List ℕ) → cond b (f a && list_all f xs) true ≡ list_all f (cond b (a ∷ xs) [])
+all_first true f a xs = refl
+all_first false f a xs = refl
 
-  module _ (whole : Bool) (inv : is_row L word (t - i) a stop ≡ whole) where
-    pub row_ends : i < t → a ≡ stop → true ≡ whole
-    row_ends h e = sym ends ∙ inv
-      where
-        ends : is_row L word (t - i) a stop ≡ true
-        ends =
-            let fuel : t - i ≡ suc (t - (i + 1)) = omega arith in
-            let q = eq-eqb a stop e in
-            rw (fuel, q)
+-- the second test only counts where the first passes
+and_if : (b r s : Bool) → (b ≡ true → r ≡ s) → (b && r) ≡ (b && s)
+and_if true r s h = h refl
+and_if false r s h = refl
 
-    pub row_broken : i < t → (a ≡ stop → ⊥) → (x : ℕ) → x ≡ word a → false ≡ ends_by x → false ≡ whole
-    row_broken h ne x is_x fails = sym broken ∙ inv
-      where
-        broken : is_row L word (t - i) a stop ≡ false
-        broken =
-            let fuel : t - i ≡ suc (t - (i + 1)) = omega arith in
-            let q = ne_eqb a stop ne in
-            let no_object = ap ends_by (sym is_x) ∙ sym fails in
-            rw (fuel, q, no_object)
+module _ (L : Rules) (word : ℕ → ℕ) where
+  pub heads_listed : (n a stop x : ℕ) → heads_row L word n a stop x ≡ list_any (eqb x) (headers L word n a stop)
+  heads_listed zero a stop x = refl
+  heads_listed (suc n) a stop x =
+      let on = a + object_words L (word a) in
+      ap (λ r. ltb a stop && (eqb x a || r)) (heads_listed n on stop x) ∙ any_first (ltb a stop) (eqb x) a (headers L word n on stop)
 
-    pub row_next : i < t → (a ≡ stop → ⊥) → (x : ℕ) → x ≡ word a → true ≡ ends_by x → (n : ℕ) → n ≡ object_words L x → is_row L word (t - (i + 1)) (a + n) stop ≡ whole
-    row_next h ne x is_x passes n is_n = ap (λ k. is_row L word (t - (i + 1)) (a + k) stop) (is_n ∙ ap (object_words L) is_x) ∙ next ∙ inv
-      where
-        next : is_row L word (t - (i + 1)) (a + object_words L (word a)) stop ≡ is_row L word (t - i) a stop
-        next =
-            let fuel : t - i ≡ suc (t - (i + 1)) = omega arith in
-            let q = ne_eqb a stop ne in
-            let object = ap ends_by (sym is_x) ∙ sym passes in
-            rw (fuel, q, object)
+  module _ (ok : Value → Bool) where
+    pub slots_listed : (n a stop : ℕ) → slots_pass L word ok n a stop ≡ list_all (object_passes L word ok) (headers L word n a stop)
+    slots_listed zero a stop = refl
+    slots_listed (suc n) a stop =
+        let on = a + object_words L (word a) in
+        ap (λ r. cond (ltb a stop) (object_passes L word ok a && r) true) (slots_listed n on stop) ∙ all_first (ltb a stop) (object_passes L word ok) a (headers L word n on stop)
 
-    pub row_done : t ≤ i → eqb a stop ≡ whole
-    row_done h = sym (let fuel : t - i ≡ 0 = omega arith in rw fuel) ∙ inv
-
-  -- A header in the row
-
-  module _ (x : ℕ) (whole : Bool) (inv : heads_row L word (t - i) a stop x ≡ whole) where
-    pub head_past : i < t → stop ≤ a → false ≡ whole
-    head_past h past = sym outside ∙ inv
-      where
-        outside : heads_row L word (t - i) a stop x ≡ false
-        outside =
-            let fuel : t - i ≡ suc (t - (i + 1)) = omega arith in
-            let q = le-ltb a stop past in
-            rw (fuel, q)
-
-    pub head_here : i < t → a < stop → a ≡ x → true ≡ whole
-    head_here h before here = sym found ∙ inv
-      where
-        found : heads_row L word (t - i) a stop x ≡ true
-        found =
-            let fuel : t - i ≡ suc (t - (i + 1)) = omega arith in
-            let q = lt-ltb a stop before in
-            let e = eq-eqb x a (sym here) in
-            rw (fuel, q, e)
-
-    pub head_next : i < t → a < stop → (a ≡ x → ⊥) → (y : ℕ) → y ≡ word a → (n : ℕ) → n ≡ object_words L y → heads_row L word (t - (i + 1)) (a + n) stop x ≡ whole
-    head_next h before ne y is_y n is_n = ap (λ k. heads_row L word (t - (i + 1)) (a + k) stop x) (is_n ∙ ap (object_words L) is_y) ∙ next ∙ inv
-      where
-        next : heads_row L word (t - (i + 1)) (a + object_words L (word a)) stop x ≡ heads_row L word (t - i) a stop x
-        next =
-            let fuel : t - i ≡ suc (t - (i + 1)) = omega arith in
-            let q = lt-ltb a stop before in
-            let e = ne_eqb x a (λ p. ne (sym p)) in
-            rw (fuel, q, e)
-
-    pub head_done : t ≤ i → false ≡ whole
-    head_done h = sym none ∙ inv
-      where
-        none : heads_row L word (t - i) a stop x ≡ false
-        none = let fuel : t - i ≡ 0 = omega arith in rw fuel
-
-  -- The values in the slots of the row
-
-  module _ (ok : Value → Bool) (whole : Bool) (inv : slots_pass L word ok (t - i) a stop ≡ whole) where
-    -- those of an object at a with header x pass
-    abbrev object_passes : ℕ → Bool
-    object_passes x = every_below (slot_count L x) (λ k. ok (L.unpacked x k (word (a + suc k))))
-
-    pub slots_past : i < t → stop ≤ a → true ≡ whole
-    slots_past h past = sym outside ∙ inv
-      where
-        outside : slots_pass L word ok (t - i) a stop ≡ true
-        outside =
-            let fuel : t - i ≡ suc (t - (i + 1)) = omega arith in
-            let q = le-ltb a stop past in
-            rw (fuel, q)
-
-    pub slots_fail : i < t → a < stop → (x : ℕ) → x ≡ word a → false ≡ object_passes x → false ≡ whole
-    slots_fail h before x is_x fails = sym failing ∙ inv
-      where
-        failing : slots_pass L word ok (t - i) a stop ≡ false
-        failing =
-            let fuel : t - i ≡ suc (t - (i + 1)) = omega arith in
-            let q = lt-ltb a stop before in
-            let fail = ap object_passes (sym is_x) ∙ sym fails in
-            rw (fuel, q, fail)
-
-    pub slots_next : i < t → a < stop → (x : ℕ) → x ≡ word a → true ≡ object_passes x → (n : ℕ) → n ≡ object_words L x → slots_pass L word ok (t - (i + 1)) (a + n) stop ≡ whole
-    slots_next h before x is_x passes n is_n = ap (λ k. slots_pass L word ok (t - (i + 1)) (a + k) stop) (is_n ∙ ap (object_words L) is_x) ∙ next ∙ inv
-      where
-        next : slots_pass L word ok (t - (i + 1)) (a + object_words L (word a)) stop ≡ slots_pass L word ok (t - i) a stop
-        next =
-            let fuel : t - i ≡ suc (t - (i + 1)) = omega arith in
-            let q = lt-ltb a stop before in
-            let pass = ap object_passes (sym is_x) ∙ sym passes in
-            rw (fuel, q, pass)
-
-    pub slots_done : t ≤ i → true ≡ whole
-    slots_done h = sym none ∙ inv
-      where
-        none : slots_pass L word ok (t - i) a stop ≡ true
-        none = let fuel : t - i ≡ 0 = omega arith in rw fuel
+  pub row_listed : (n a stop : ℕ) → a ≤ stop → stop ≤ a + n → is_row L word n a stop ≡ list_all (ends_by L word stop) (headers L word n a stop)
+  row_listed zero a stop h k = eq-eqb a stop (omega arith)
+  row_listed (suc n) a stop h k =
+      let on = a + object_words L (word a) in
+      elim (cases_lt a stop) [
+        | inl p ↦
+            let q = lt-ltb a stop p in
+            let ne = ne_eqb a stop (λ e. absurd (omega arith)) in
+            rw (q, ne) (and_if (ends_by L word stop a) (is_row L word n on stop) (list_all (ends_by L word stop) (headers L word n on stop)) (λ e. row_listed n on stop (leb-true on stop (and_parts (is_header L (word a)) (leb on stop) e).1) (omega arith)))
+        | inr p ↦
+            let q = le-ltb a stop p in
+            let e = eq-eqb a stop (omega arith) in
+            rw (q, e) refl
+      ]

@@ -1,5 +1,5 @@
 -- What RESTORE makes is the restored heap.
-use Rattle.std.proofs.Common.{◌≡◌, ℕ, zero, suc, ◌+◌, ◌-◌, ◌*◌, ◌%◌, ◌≤◌, cond, ◌&&◌, ltb, leb, List, sym, refl, ap, ◌∙◌, ap₂, inl, inr, add-mul, add-one, arith}
+use Rattle.std.proofs.Common.{◌≡◌, ℕ, zero, suc, ◌+◌, ◌-◌, ◌*◌, ◌%◌, ◌≤◌, false, cond, ◌&&◌, ltb, leb, sym, refl, ap, ◌∙◌, inl, inr, add-mul, arith}
 use Rattle.std.proofs.lemmas.Bool.{cases_lt, cond-true, lt-ltb}
 use Rattle.std.proofs.lemmas.Bool.Decides.{nat_tests}
 use Rattle.memory.proofs.Memories.{same_memory, after_set_inside}
@@ -12,20 +12,13 @@ use Rattle.model.specs.Collecting.{opened}
 use Rattle.model.specs.Restoring.{half_of, restored}
 use Rattle.model.specs.declared.states.Half.{Half}
 use Rattle.model.specs.declared.states.Half.TheVariants.{Lower, Upper}
+use Rattle.model.specs.declared.states.Phase.TheVariants.{Idle}
+use Rattle.model.specs.declared.states.State.TheVariants.{Running}
 use Rattle.restoring.specs.Restored.{image_view}
-use Rattle.restoring.specs.Outlines.{outline_of, word_in}
+use Rattle.restoring.specs.Outlines.{IsOutline, word_in, register_in}
 use Rattle.restoring.specs.Writing.{written, turned, plain_in}
-use Rattle.restoring.specs.declared.outlines.Outline.{Outline}
-
--- one word more
-pub written_more : (n : ℕ) (m p q : Memory) (f : ℕ → ℕ) (w : ℕ) → p ≡ written n m f → w ≡ f n → q ≡ after_set p n w → q ≡ written (n + 1) m f
-written_more n m p q f w is_p is_w is_q = rw add-one (is_q ∙ ap₂ (λ x y. after_set x n y) is_p is_w)
-
--- all of them: a is the number of pages n times their size k
-pub written_all : (a n k : ℕ) (m p : Memory) (f : ℕ → ℕ) → p ≡ written a m f → n ≡ m.page_count → k ≡ m.page_size → n * k ≤ a → a ≤ n * k → p ≡ written (extent m) m f
-written_all a n k m p f is_p is_n is_k low high =
-    let all : a ≡ n * k = omega arith in
-    is_p ∙ ap (λ x. written x m f) (all ∙ ap₂ ◌*◌ is_n is_k)
+use Rattle.restoring.specs.declared.objects.Objects.{Objects}
+use Rattle.restoring.proofs.Outlining.{word_same}
 
 -- the first n words as f has them
 abbrev words_are : ℕ → Memory → (ℕ → ℕ) → Memory
@@ -119,8 +112,15 @@ module _ (m : Memory) (even : m.page_count % 2 ≡ 0) (blank : (a : ℕ) → ext
       ∙ same_memory _ _ refl refl (word_is s b) (right_is (half_word m s b) s)
 
   -- x has the words, y also the rights, and h is the heap on it
-  pub restored_is : (xs : List ℕ) (s : Half) (o : Outline) (x y : Memory) (h : Model) → s ≡ half_of (image_view xs 3) → o ≡ outline_of m (image_view xs) → x ≡ written (extent m) m (word_in xs o) → y ≡ turned x s → h ≡ plain_in y s o (image_view xs) → h ≡ restored m (image_view xs)
-  restored_is xs s o x y h is_s is_o is_x is_y is_h =
-      let words = is_x ∙ ap (λ q. written (extent m) m (word_in xs q)) is_o in
-      let memory = is_y ∙ (λ i. turned (words i) (is_s i)) ∙ turned_is (image_view xs) (half_of (image_view xs 3)) in
-      is_h ∙ (λ i. plain_in (memory i) (is_s i) (is_o i) (image_view xs))
+  pub restored_is : {A : Type 0} (o : Objects A) (x y : Memory) (h : Model)
+      → IsOutline m (image_view o.image.words.now) o.outline
+      → x ≡ written (extent m) m (word_in o)
+      → y ≡ turned x (half_of (image_view o.image.words.now 3))
+      → h ≡ plain_in y (half_of (image_view o.image.words.now 3)) o.outline (image_view o.image.words.now)
+      → h ≡ restored m (image_view o.image.words.now)
+  restored_is o x y h is_o is_x is_y is_h =
+      let b = image_view o.image.words.now in
+      let s = half_of (b 3) in
+      let words = is_x ∙ ap (written (extent m) m) (word_same m o is_o) in
+      let memory = is_y ∙ ap (λ z. turned z s) words ∙ turned_is b s in
+      is_h ∙ (λ i. record { memory = memory i; space = record { copy_end = is_o.copy_end i; crossing = λ p. 0 }; half = s; new_start = is_o.new_start i; unscanned = λ p. 0; flip_used = 0; unsaved = λ p. false; mark_start = 0; register = register_in b; state = λ q. Running; phase = Idle; traps = 0 })

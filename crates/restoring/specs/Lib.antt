@@ -1,3 +1,5 @@
 pub mod Restored
+pub mod Kinds
 pub mod Outlines
 pub mod Writing
+pub mod Rows

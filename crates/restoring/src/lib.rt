@@ -2,9 +2,11 @@
 
 pub mod fields;
 pub mod image_words;
+pub mod objects;
 pub mod outlines;
 pub mod references;
 pub mod refusing;
+pub mod registers;
 pub mod restoring;
 pub mod rows;
 

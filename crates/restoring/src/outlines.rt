@@ -1,14 +1,8 @@
 ghost use Rattle.std.specs.Prelude.{◌≡◌, ◌+◌, ◌≤◌};
-ghost use Rattle.model.specs.Heap.{half_words};
-ghost use Rattle.model.specs.Restoring.{half_of};
-ghost use Rattle.restoring.specs.Restored.{image_view};
-ghost use Rattle.restoring.specs.Outlines.{Laid, outline_of, word_in};
 
-use super::image_words::{COPIED_WORDS, HALF_NUMBER, NEW_WORDS, TO_SPACE, image_word};
+use super::image_words::{COPIED_WORDS, Image, NEW_WORDS};
 use memory::Host;
-use model::Half;
-use state::start_of_half;
-use words::{page_words, pages_in_half};
+use state::{start_of_half, words_in_half};
 
 /// Where an image's objects lie: to-space, and the gap between the copied and the new ones.
 #[derive(Clone, Copy)]
@@ -17,49 +11,34 @@ pub(crate) struct Outline {
     pub(crate) words: u32,
     pub(crate) copy_end: u32,
     pub(crate) new_start: u32,
+    // The copied and the new words lie in to-space, and that in a host.
+    ghost laid: { (start ≤ copy_end) × (copy_end ≤ start + words) × (start ≤ new_start) × (new_start ≤ start + words) × (start + words ≤ 16384) },
 }
 
-/// The word that an image has for an address: 0 outside to-space.
-pub(crate) fn restored_word(image: &[u32], outline: Outline, a: u32) -> u32
-    ensures { result ≡ word_in image.now outline a }
-{
-    if a < outline.start || a - outline.start >= outline.words {
-        return 0;
+impl Outline {
+    ghost use Rattle.model.specs.Heap.{half_words};
+    ghost use Rattle.restoring.specs.Restored.{image_view};
+    ghost use Rattle.restoring.specs.Outlines.{IsOutline};
+
+    /// Where the objects of an image lie that has no more of them than a half holds.
+    pub(crate) fn new<H: Host>(host: &H, image: &Image) -> Outline
+        requires { image_view image.now.words.now 4 + image_view image.now.words.now 5 ≤ half_words (H.Host.meaning host.now) }
+        ensures { IsOutline (H.Host.meaning host.now) (image_view image.now.words.now) result }
+    {
+        let start = start_of_half(host, image.half());
+        let words = words_in_half(host);
+        Outline {
+            start,
+            words,
+            copy_end: start + image.word(COPIED_WORDS),
+            new_start: start + words - image.word(NEW_WORDS),
+        }
     }
-    image_word(image, TO_SPACE + (a - outline.start) as usize)
-}
 
-/// The half that a number names.
-pub(crate) fn numbered_half(number: u32) -> Half
-    ensures { result ≡ half_of number }
-{
-    if number == 0 {
-        Half::Lower
-    } else {
-        Half::Upper
-    }
-}
-
-/// Words in a half, at most 8192.
-pub(crate) fn words_in_half<H: Host>(host: &H) -> u32
-    ensures value { result ≡ half_words (H.Host.meaning host.now) }
-    ensures few { result ≤ 8192 }
-{
-    pages_in_half(host) * page_words(host)
-}
-
-/// Where the objects of an image lie that has no more of them than a half holds.
-pub(crate) fn outlined<H: Host>(host: &H, image: &[u32]) -> Outline
-    requires { image_view image.now 4 + image_view image.now 5 ≤ half_words (H.Host.meaning host.now) }
-    ensures value { result ≡ outline_of (H.Host.meaning host.now) (image_view image.now) }
-    ensures laid { Laid result }
-{
-    let start = start_of_half(host, numbered_half(image_word(image, HALF_NUMBER)));
-    let words = words_in_half(host);
-    Outline {
-        start,
-        words,
-        copy_end: start + image_word(image, COPIED_WORDS),
-        new_start: start + words - image_word(image, NEW_WORDS),
+    /// Where to-space ends.
+    pub(crate) fn end(self) -> u32
+        ensures { result ≡ self.start + self.words }
+    {
+        self.start + self.words
     }
 }

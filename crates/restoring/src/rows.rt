@@ -1,85 +1,76 @@
-ghost use Rattle.std.specs.Prelude.{◌≡◌, ◌+◌, ◌≤◌, ◌&&◌, nat_le};
-ghost use Rattle.model.specs.Objects.{is_header, slot_count, object_words};
+ghost use Rattle.std.specs.Prelude.{◌≡◌, ◌+◌, ◌≤◌};
+ghost use Rattle.std.specs.Iterator.{YieldsFirst, item_count};
 ghost use Rattle.model.specs.Restoring.{is_row, heads_row};
 ghost use Rattle.restoring.specs.Outlines.{word_in};
+ghost use Rattle.restoring.specs.Rows.{headers, headers_left, ends_by};
 
-use super::outlines::{Outline, restored_word};
+use super::objects::Objects;
 use layouts::Layout;
+use state::object_words;
 
-/// The slots of the object with this header, at most 255; a word that is no header has none.
-pub(crate) fn slot_count<L: Layout>(layout: &L, header: u32) -> u32
-    ensures value { result ≡ slot_count L.Layout.rules header }
-    ensures few { result ≤ 255 }
-{
-    match layout.slots(header) {
-        Some(slots) => slots,
-        None => 0,
-    }
-}
-
-/// The words of the object with this header, from 1 to 256.
-pub(crate) fn object_words<L: Layout>(layout: &L, header: u32) -> u32
-    ensures value { result ≡ object_words L.Layout.rules header }
-    ensures few { result ≤ 256 }
-{
-    slot_count(layout, header) + 1
-}
-
-// Whether a word at an address is the header of an object that ends by another address.
-fn ends_by<L: Layout>(layout: &L, word: u32, a: u32, stop: u32) -> bool
-    ensures { result ≡ (is_header L.Layout.rules word && nat_le (a + object_words L.Layout.rules word) stop) }
-{
-    match layout.slots(word) {
-        Some(slots) => slots < stop.saturating_sub(a),
-        None => false,
-    }
-}
-
-/// Whether the words from one address up to another are whole objects in a row.
-pub(crate) fn is_row<L: Layout>(
-    layout: &L,
-    image: &[u32],
-    outline: Outline,
-    from: u32,
+/// The addresses of the headers in a row of objects, each behind the object before, and at most so many of them.
+#[derive_where(Clone, Copy)]
+pub(crate) struct Headers<'a, L> {
+    objects: Objects<'a, L>,
+    a: u32,
     stop: u32,
-) -> bool
-    ensures { result ≡ is_row L.Layout.rules (word_in image.now outline) outline.words from stop }
-{
-    let mut a = from;
-    for _ in 0..outline.words {
-        if a == stop {
-            return true;
-        }
-        let word = restored_word(image, outline, a);
-        if !ends_by(layout, word, a, stop) {
-            return false;
-        }
-        a += object_words(layout, word);
-    }
-    a == stop
+    left: u32,
 }
 
-/// Whether an address is that of a header in a row of objects.
-pub(crate) fn heads_row<L: Layout>(
-    layout: &L,
-    image: &[u32],
-    outline: Outline,
-    from: u32,
-    stop: u32,
-    address: u32,
-) -> bool
-    requires { stop ≤ 16384 }
-    ensures { result ≡ heads_row L.Layout.rules (word_in image.now outline) outline.words from stop address }
-{
-    let mut a = from;
-    for _ in 0..outline.words {
-        if a >= stop {
-            return false;
+impl<L: Layout> Iterator for Headers<'_, L> {
+    type Item = u32;
+
+    ghost next_gives = { YieldsFirst (headers_left L.Layout.rules) };
+
+    ghost remaining = { item_count (headers_left L.Layout.rules) };
+
+    fn next(&mut self) -> Option<u32> {
+        if self.left == 0 || self.a >= self.stop {
+            return None;
         }
-        if a == address {
-            return true;
-        }
-        a += object_words(layout, restored_word(image, outline, a));
+        let a = self.a;
+        let words = object_words(self.objects.layout, self.objects.word(a));
+        // No object lies past the last address, so a sum that stops there ends the row.
+        self.a = a.saturating_add(words);
+        self.left -= 1;
+        Some(a)
     }
-    false
+}
+
+impl<L: Layout> Objects<'_, L> {
+    /// The addresses of the headers in a row from one address up to another.
+    pub(crate) fn headers(&self, from: u32, stop: u32) -> Headers<'_, L>
+        ensures { headers_left L.Layout.rules result ≡ headers L.Layout.rules (word_in self.now) self.now.outline.words from stop }
+    {
+        Headers {
+            objects: *self,
+            a: from,
+            stop,
+            left: self.outline.words,
+        }
+    }
+
+    // Whether the word at an address is the header of an object that ends by another address.
+    fn ends_by(&self, a: u32, stop: u32) -> bool
+        ensures { result ≡ ends_by L.Layout.rules (word_in self.now) stop a }
+    {
+        self.layout
+            .slots(self.word(a))
+            .is_some_and(|slots| slots < stop.saturating_sub(a))
+    }
+
+    /// Whether the words from one address up to another are whole objects in a row.
+    pub(crate) fn is_row(&self, from: u32, stop: u32) -> bool
+        requires { (from ≤ stop) × (stop ≤ from + self.now.outline.words) }
+        ensures { result ≡ is_row L.Layout.rules (word_in self.now) self.now.outline.words from stop }
+    {
+        self.headers(from, stop).all(|a| self.ends_by(a, stop))
+    }
+
+    /// Whether an address is that of a header in a row of objects.
+    pub(crate) fn heads_row(&self, from: u32, stop: u32, address: u32) -> bool
+        ensures { result ≡ heads_row L.Layout.rules (word_in self.now) self.now.outline.words from stop address }
+    {
+        self.headers(from, stop).any(|a| a == address)
+    }
 }

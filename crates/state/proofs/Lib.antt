@@ -1,2 +1,4 @@
 pub mod Table
 pub mod Lowest
+pub mod Made
+pub mod Blank

@@ -4,6 +4,8 @@ use Rattle.memory.specs.Memory.{Memory}
 use Rattle.layouts.specs.declared.values.Value.{Value}
 use Rattle.model.specs.Heap.{Heap as Model, Space as Copies, Moving}
 use Rattle.model.specs.Forwarding.{Roots}
+use Rattle.model.specs.declared.states.Half.{Half}
+use Rattle.model.specs.declared.states.Phase.TheVariants.{Idle}
 use Rattle.model.specs.declared.states.State.{State}
 use Rattle.model.specs.declared.states.State.TheVariants.{Running}
 use Rattle.state.specs.declared.mutators.Held.{Held}
@@ -55,6 +57,23 @@ unsaved_view xs q = slice_index_or xs q false
 -- the first unscanned word of a page
 abbrev pub unscanned_view : List ℕ → ℕ → ℕ
 unscanned_view xs q = slice_index xs q
+
+-- with nothing in progress, no trap, and no page's crossing or unscanned word
+abbrev pub idle_of : Memory → List Mutator → Half → ℕ → ℕ → Model
+idle_of m ms s e n = record {
+  memory = m;
+  space = record { copy_end = e; crossing = λ q. 0 };
+  half = s;
+  new_start = n;
+  unscanned = λ q. 0;
+  flip_used = 0;
+  unsaved = λ q. false;
+  mark_start = 0;
+  register = register_view ms;
+  state = state_view ms;
+  phase = Idle;
+  traps = 0;
+}
 
 abbrev pub state_of : Memory → Plain → Model
 state_of m p = record {

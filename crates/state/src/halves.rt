@@ -1,5 +1,5 @@
 ghost use Rattle.std.specs.Prelude.{◌≡◌, ℕ, ◌≤◌};
-ghost use Rattle.model.specs.Heap.{first_page, first_word, other_half, whole_pages};
+ghost use Rattle.model.specs.Heap.{first_page, first_word, half_words, other_half, whole_pages};
 
 use memory::Host;
 use model::Half;
@@ -26,6 +26,14 @@ pub fn page_of_half<H: Host>(host: &H, half: Half) -> u32
     }
 }
 
+/// Words in a half, at most 8192.
+pub fn words_in_half<H: Host>(host: &H) -> u32
+    ensures value { result ≡ half_words (H.Host.meaning host.now) }
+    ensures few { result ≤ 8192 }
+{
+    pages_in_half(host) * page_words(host)
+}
+
 /// The first word of a half, at most 8192.
 pub fn start_of_half<H: Host>(host: &H, half: Half) -> u32
     ensures value { result ≡ first_word (H.Host.meaning host.now) half }
@@ -33,7 +41,7 @@ pub fn start_of_half<H: Host>(host: &H, half: Half) -> u32
 {
     match half {
         Half::Lower => 0,
-        Half::Upper => pages_in_half(host) * page_words(host),
+        Half::Upper => words_in_half(host),
     }
 }
 
@@ -43,5 +51,5 @@ pub fn pages_for<H: Host>(host: &H, words: u32) -> u32
     ensures few { result ≤ 32 }
 {
     let size = page_words(host);
-    (words.saturating_add(size - 1) / size).min(pages_in_half(host))
+    words.div_ceil(size).min(pages_in_half(host))
 }

@@ -8,7 +8,8 @@ pub struct Space {
     pub crossing: [u32; 64],
 }
 
-/// All of a heap's state but its host and layout.
+/// All of a heap's state but its host and layout. It is of one size, and has a place for each page that a host may have.
+// The three tables of pages are not one: forwarding is lent `Space` alone, and MARK makes `unsaved` alone.
 #[derive(Clone, Copy)]
 pub struct Plain {
     pub mutators: [Mutator; 4],

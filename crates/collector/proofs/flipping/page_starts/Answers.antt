@@ -1,11 +1,7 @@
-use Rattle.std.proofs.Common.{◌*◌, ◌∙◌, arith, length-set, rules}
-use Rattle.collector.proofs.Starting.{starts_at, one_start}
+use Rattle.std.proofs.Common.{◌*◌, rules}
+use Rattle.state.proofs.Made.{made-from_fn}
+use Rattle.collector.proofs.Starting.{starts_at}
 use Rattle.collector.proofs.flipping.page_starts.Goals as goal
 
-pub loop-p-preserved : goal.loop-p-preserved
-loop-p-preserved c =
-    let xs = c.loop-p.pages in
-    (length-set xs c.loop-p.p (c.loop-p.p * c.args.size) ∙ c.loop-p.invariant.0, one_start xs c.args.size c.loop-p.p (search rules) c.loop-p.invariant.1)
-
 pub returns : goal.returns
-returns c = λ i q. starts_at c.loop-p.pages c.args.size c.loop-p.invariant.0 (λ k h. c.loop-p.invariant.1 k (omega arith)) q i
+returns c = λ i q. starts_at c.from_fn.result c.args.size c.from_fn.ensures.items.long (made-from_fn _ (λ p. p * c.args.size) c.from_fn.result 0 (λ p y q k. search rules) 64 c.from_fn.ensures.items) q i

@@ -1,5 +1,14 @@
+use Rattle.std.proofs.Common.{sym, ap, ◌∙◌, ◌&&◌}
+use Rattle.model.specs.Restoring.{is_written_well, is_made_of_objects, restored}
+use Rattle.restoring.specs.Restored.{image_view}
 use Rattle.restoring.proofs.Outlining.{heap_tested}
 use Rattle.restoring.proofs.refusing.is_of_a_heap.Goals as goal
 
-pub returns : goal.returns
-returns g c = heap_tested g.L.Layout.rules (g.H.Host.meaning c.args.host.now) c.args.image.now c.outlined.result c.is_made_of_objects.result c.if-not-is_written_well.ensures c.outlined.ensures.value c.is_made_of_objects.ensures
+pub returns-then-is_written_well : goal.returns-then-is_written_well
+returns-then-is_written_well g c =
+    let m = g.H.Host.meaning c.args.host.now in
+    let L = g.L.Layout.rules in
+    let same = c.new.ensures.image in
+    let well = c.if-is_written_well.ensures ∙ ap (λ xs. is_written_well m (image_view xs)) (sym same) in
+    heap_tested m c.new.result c.new.ensures.outline L _ well c.are_well_made.ensures
+    ∙ ap (λ xs. is_written_well m (image_view xs) && is_made_of_objects L (restored m (image_view xs))) same

@@ -1,4 +1,4 @@
-use Rattle.std.proofs.Common.{◌*◌, refl, ap, ◌∙◌, ap₂, rules}
+use Rattle.std.proofs.Common.{refl, ap, ◌∙◌, rules}
 use Rattle.model.specs.Heap.{with_new_start}
 use Rattle.model.specs.Calls.{fresh_heap}
 use Rattle.heap.proofs.Fresh.{cleared_is}
@@ -9,5 +9,5 @@ returns g c =
     let means = g.H.Host.meaning in
     let h = c.args.host in
     let memory = c.clear.ensures ∙ cleared_is (means h) (search rules) (g.met.H.Host.blank h) (g.met.H.Host.shut h) in
-    let words = ap₂ ◌*◌ c.pages_in_half.ensures.value c.page_words.ensures.value in
+    let words = c.words_in_half-half_words.ensures.value in
     (search rules, c.fresh_plain.ensures (means c.clear.new.host) ∙ ap (with_new_start (fresh_heap (means c.clear.new.host))) words ∙ ap fresh_heap memory, refl)

@@ -9,7 +9,7 @@ use Rattle.heap.proofs.heap_state.Heap.trap.Goals as goal
 pub returns : goal.returns
 returns g c =
     let h = view g.H.Host.meaning c.args.self.now in
-    let m = c.args.m in
-    let some : m ≤ 3 = omega (arith, c.requires) in
+    let m = c.number.result in
+    let some : m ≤ 3 = omega (arith, c.number.ensures.few) in
     let waits = c.advance.ensures.after ∙ ap (λ b. to_state h m (cond b None (Some (Waiting c.args.page)))) (le-ltb 3 m some) in
-    record { after = ap₂ with_traps waits (c.saturating_add-self.ensures ∙ ap (λ x. plus x.traps 1) waits); layout = c.advance.ensures.layout }
+    rw (← c.number.ensures.value) (record { after = ap₂ with_traps waits (c.saturating_add-self.ensures ∙ ap (λ x. plus x.traps 1) waits); layout = c.advance.ensures.layout })

@@ -1,0 +1,15 @@
+use Rattle.std.proofs.Common.{sym, ◌∙◌, rules}
+use Rattle.std.proofs.lemmas.Iterator.Consumers.{YieldsList-from_first}
+use Rattle.std.proofs.lemmas.Iterator.Search.{all_from_yields_List}
+use borrow.Author.Tests.{tests}
+use Rattle.restoring.specs.Outlines.{word_in}
+use Rattle.restoring.specs.Rows.{headers_left, ends_by}
+use Rattle.restoring.proofs.Walks.{row_listed}
+use Rattle.restoring.proofs.objects.Objects.is_row.Goals as goal
+
+pub returns : goal.returns
+returns g c =
+    let L = g.L.Layout.rules in
+    let word = word_in c.args.self.now in
+    let n = c.args.self.now.outline.words in
+    all_from_yields_List (ends_by L word c.args.stop) c.all.new.self _ _ c.all.ensures.ran (YieldsList-from_first (λ x. x) (headers_left L) _ c.headers.ensures) (λ x b q k. search (rules, tests)) ∙ sym (row_listed L word n c.args.from c.args.stop c.requires.0 c.requires.1)
