@@ -1,5 +1,5 @@
 -- What carrying out a list of calls answers.
-use Rattle.std.specs.Prelude.{◌≡◌, ℕ, ◌%◌, ◌<◌, ◌≤◌, List, [], ◌∷◌, length, take, drop, Ok, Err, Result}
+use Rattle.std.specs.Prelude.{◌≡◌, ℕ, ◌%◌, ◌<◌, ◌≤◌, Bool, true, false, ◌&&◌, List, map, length, take, drop, Ok, Err, Result, ◌==◌, nat_lt}
 use Rattle.memory.specs.Memory.{Memory}
 use Rattle.memory.specs.declared.refusals.Refusal.TheVariants.{Size, Short}
 use Rattle.memory.specs.declared.refusals.Rejected.{Rejected}
@@ -27,8 +27,11 @@ as_call (Tell m s) = Call.Tell m s
 as_call Count = Call.Count
 
 abbrev pub as_calls : List MutatorCall → List Call
-as_calls [] = []
-as_calls (c ∷ cs) = as_call c ∷ as_calls cs
+as_calls cs = map as_call cs
+
+-- an even page count, and fewer places for answers than calls
+abbrev pub lacks_places : Memory → ℕ → ℕ → Bool
+lacks_places m places calls = m.page_count % 2 == 0 && nat_lt places calls
 
 -- Answers as if nothing moved: to these calls they are the answers of the heap that never moves an object, being told only
 -- of what trapped, and on which page
@@ -38,6 +41,12 @@ AsIfNothingMoved L m cs xs = never_answers L (record { page_size = m.page_size; 
 -- the moving heap as made on a host that means m, with a buffer
 abbrev pub made_on : Memory → (ℕ → ℕ) → Machine
 made_on m b = record { heap = made m.page_count m.page_size; buffer = b }
+
+module _ {H L : Type 0} (means : H → Memory) where
+  -- host and layout back, refused or not for want of places
+  abbrev pub HasPlaces : H → L → ℕ → ℕ → Result (H × L) (Rejected (H × L)) → Type 0
+  HasPlaces host layout calls places (Ok p) = (lacks_places (means host) places calls ≡ false) × (p ≡ (host, layout))
+  HasPlaces host layout calls places (Err e) = (lacks_places (means host) places calls ≡ true) × (e.refusal ≡ Short) × (e.given ≡ (host, layout))
 
 module _ {H L : Type 0} (rules : Rules) (means : H → Memory) where
   -- All calls carried out. old and new are the places for answers, before and after: the first of them have the answers, which

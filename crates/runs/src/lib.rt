@@ -2,4 +2,4 @@
 
 pub mod lists;
 
-pub use lists::{MutatorCall, run};
+pub use lists::{MutatorCall, carry_out, check_places, run};

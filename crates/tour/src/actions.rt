@@ -1,55 +1,38 @@
-use super::zones::{Zone, read_zone, same, write_zone};
+use super::zones::{Zone, read_zone, write_zone};
 use layouts::{Layout, Value};
-use memory::{Denied, Host, Refusal, Right};
+use memory::{Host, Right};
+use std::fmt::Display;
+
+// What a call gave, or why it gave nothing.
+fn tell_value<T: Display + Drop, E: Display + Drop>(
+    rt: &impl Print,
+    call: impl Display + Drop,
+    answer: Result<T, E>,
+) -> anyhow::Result<()> {
+    match answer {
+        Ok(value) => println!(rt; "  {call}: {value}")?,
+        Err(error) => println!(rt; "  {call}: {error}")?,
+    }
+    Ok(())
+}
 
 // What a call that gives nothing back answered.
-fn tell(rt: &impl Print, call: &str, answer: Result<(), Refusal>) -> anyhow::Result<()> {
-    match answer {
-        Ok(()) => println!(rt; "  {call}: done")?,
-        Err(refusal) => {
-            let number = refusal.number();
-            println!(rt; "  {call}: refused {number}")?
-        }
-    }
-    Ok(())
-}
-
-// What a call that gives a word answered.
-fn tell_word(rt: &impl Print, call: &str, answer: Result<u32, Refusal>) -> anyhow::Result<()> {
-    match answer {
-        Ok(word) => println!(rt; "  {call}: {word}")?,
-        Err(refusal) => {
-            let number = refusal.number();
-            println!(rt; "  {call}: refused {number}")?
-        }
-    }
-    Ok(())
-}
-
-// Why an access was denied.
-fn tell_denied(rt: &impl Print, call: &str, a: u32, denied: Denied) -> anyhow::Result<()> {
-    match denied {
-        Denied::Fault(page) => println!(rt; "  {call} at {a}: faults on page {page}")?,
-        Denied::Refused(refusal) => {
-            let number = refusal.number();
-            println!(rt; "  {call} at {a}: refused {number}")?
-        }
-    }
-    Ok(())
+fn tell<E: Display + Drop>(
+    rt: &impl Print,
+    call: impl Display + Drop,
+    answer: Result<(), E>,
+) -> anyhow::Result<()> {
+    tell_value(rt, call, answer.map(|()| "done"))
 }
 
 fn look<H: Host>(rt: &impl Print, host: &mut H, a: u32) -> anyhow::Result<()> {
-    match host.look(a) {
-        Ok(word) => println!(rt; "  look at {a}: {word}")?,
-        Err(denied) => tell_denied(rt, "look", a, denied)?,
-    }
-    Ok(())
+    tell_value(rt, format_args!("look at {a}"), host.look(a))
 }
 
 fn put<H: Host>(rt: &impl Print, host: &mut H, a: u32, word: u32) -> anyhow::Result<()> {
     match host.put(a, word) {
         Ok(()) => println!(rt; "  put {word} at {a}: done")?,
-        Err(denied) => tell_denied(rt, "put", a, denied)?,
+        Err(denied) => println!(rt; "  put at {a}: {denied}")?,
     }
     Ok(())
 }
@@ -61,11 +44,10 @@ fn put_zone<H: Host, L: Layout>(
     layout: &L,
     zone: Zone,
 ) -> anyhow::Result<()> {
-    let at = zone.at;
-    let tariff = zone.tariff;
+    let Zone { at, tariff, .. } = zone;
     match write_zone(host, layout, zone) {
         Ok(()) => println!(rt; "  zone with tariff {tariff} written at {at}")?,
-        Err(denied) => tell_denied(rt, "zone", at, denied)?,
+        Err(denied) => println!(rt; "  zone at {at}: {denied}")?,
     }
     for a in at..at.saturating_add(3) {
         look(rt, host, a)?;
@@ -80,14 +62,13 @@ fn compare_zone<H: Host, L: Layout>(
     layout: &L,
     zone: Zone,
 ) -> anyhow::Result<()> {
-    let at = zone.at;
+    let Zone { at, around, tariff } = zone;
     match read_zone(host, layout, at) {
-        Ok((around, tariff)) => {
-            let equal = same(around, zone.around) && same(tariff, Value::Number(zone.tariff));
-            let written = zone.tariff;
-            println!(rt; "  zone at {at} read back: the record with tariff {written}: {equal}")?;
+        Ok(found) => {
+            let equal = found == (around, Value::Number(tariff));
+            println!(rt; "  zone at {at} read back: the record with tariff {tariff}: {equal}")?;
         }
-        Err(denied) => tell_denied(rt, "zone", at, denied)?,
+        Err(denied) => println!(rt; "  zone at {at}: {denied}")?,
     }
     Ok(())
 }
@@ -103,7 +84,7 @@ fn rights<H: Host>(rt: &impl Print, host: &mut H) -> anyhow::Result<()> {
     tell(rt, "an empty run lowered", host.protn(9, 0, Right::None))?;
     tell(rt, "pages 7 to 8 lowered", host.protn(7, 2, Right::None))?;
     look(rt, host, 30)?;
-    tell_word(rt, "the same by the second view", host.see(30))?;
+    tell_value(rt, "the same by the second view", host.see(30))?;
     look(rt, host, 32)?;
     put(rt, host, 32, 41)?;
     tell(rt, "41 set there by the second view", host.set(32, 41))?;
@@ -121,21 +102,21 @@ fn rights<H: Host>(rt: &impl Print, host: &mut H) -> anyhow::Result<()> {
 
 // What the layout makes of the values and shapes at its edges.
 fn edges<L: Layout>(rt: &impl Print, layout: &L) -> anyhow::Result<()> {
-    tell_word(rt, "header of 1 and 1 slots", layout.header(1, 1))?;
-    tell_word(rt, "header of 200 and 55 slots", layout.header(200, 55))?;
-    tell_word(rt, "header of 200 and 56 slots", layout.header(200, 56))?;
+    tell_value(rt, "header of 1 and 1 slots", layout.header(1, 1))?;
+    tell_value(rt, "header of 200 and 55 slots", layout.header(200, 55))?;
+    tell_value(rt, "header of 200 and 56 slots", layout.header(200, 56))?;
     let header = layout.header(1, 1).unwrap_or(0);
-    tell_word(
+    tell_value(
         rt,
         "word of number 5",
         layout.pack(header, 1, Value::Number(5)),
     )?;
-    tell_word(
+    tell_value(
         rt,
         "word of number 2147483647",
         layout.pack(header, 1, Value::Number(2147483647)),
     )?;
-    tell_word(
+    tell_value(
         rt,
         "word of number 2147483648",
         layout.pack(header, 1, Value::Number(2147483648)),
@@ -149,10 +130,12 @@ fn edges<L: Layout>(rt: &impl Print, layout: &L) -> anyhow::Result<()> {
 
 /// Writes records of zones in a layout into a host's pages, tries its rights, and reads the records back.
 pub fn show<H: Host, L: Layout>(rt: &impl Print, host: &mut H, layout: &L) -> anyhow::Result<()> {
-    let pages = host.page_count();
-    let words = host.page_size();
-    let number = layout.number();
-    println!(rt; "  {pages} pages of {words} words, layout {number}")?;
+    println!(rt;
+        "  {} pages of {} words, layout {}",
+        host.page_count(),
+        host.page_size(),
+        layout.number()
+    )?;
     let city = Zone {
         at: 30,
         around: Value::Nil,
@@ -166,11 +149,7 @@ pub fn show<H: Host, L: Layout>(rt: &impl Print, host: &mut H, layout: &L) -> an
     put_zone(rt, host, layout, city)?;
     put_zone(rt, host, layout, market)?;
     rights(rt, host)?;
-    let raised = Zone {
-        at: 30,
-        around: Value::Nil,
-        tariff: 21,
-    };
+    let raised = Zone { tariff: 21, ..city };
     put_zone(rt, host, layout, raised)?;
     compare_zone(rt, host, layout, raised)?;
     compare_zone(rt, host, layout, market)?;

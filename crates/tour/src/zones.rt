@@ -36,13 +36,3 @@ pub fn read_zone<H: Host, L: Layout>(
         layout.unpack(header, 1, tariff),
     ))
 }
-
-/// Whether two values are the same: both nil, equal numbers, or one object.
-pub fn same(a: Value, b: Value) -> bool {
-    match (a, b) {
-        (Value::Nil, Value::Nil) => true,
-        (Value::Number(m), Value::Number(n)) => m == n,
-        (Value::Reference(p), Value::Reference(q)) => p == q,
-        _ => false,
-    }
-}

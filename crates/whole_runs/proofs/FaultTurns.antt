@@ -1,5 +1,5 @@
--- What TAKE and RESOLVE leave at hand.
-use Rattle.std.proofs.Common.{◌≡◌, ℕ, ◌<◌, Bool, true, false, cond, not, ◌&&◌, eqb, ltb, List, [], ◌∷◌, length, get_or, set, Some, None, Option, sym, refl, ap, ◌∙◌, subst, inl, inr, arith}
+-- What calls leave at hand.
+use Rattle.std.proofs.Common.{◌≡◌, ℕ, ◌<◌, Bool, true, false, cond, not, ◌&&◌, eqb, ltb, List, [], ◌∷◌, length, get_or, set, Some, None, Option, sym, refl, ap, ◌∙◌, subst, ap₂, inl, inr, arith}
 use Rattle.std.proofs.lemmas.List.{get_or-replicate, get_or-set_same, get_or-set_other}
 use Rattle.std.proofs.lemmas.Bool.{cases_eq, eq-eqb, ne_eqb, eqb-true, not-false, cond-true, cond-false, lt-ltb, ltb-false, true≢false, false≢true}
 use Rattle.memory.specs.Memory.{changed}
@@ -8,6 +8,7 @@ use Rattle.memory.specs.declared.refusals.Refusal.TheVariants.{Name, Short, NoFa
 use Rattle.layouts.specs.Layouts.{Rules}
 use Rattle.model.specs.declared.calls.Answer.{Answer}
 use Rattle.model.specs.declared.calls.Answer.TheVariants.{Refused, Trapped, Done, Same, Kind, Count, Copied, Scanned, Stepped, Saved}
+use Rattle.model.specs.declared.calls.Call.{Call}
 use Rattle.model.specs.declared.calls.Call.TheVariants.{Take, Resolve}
 use Rattle.model.specs.declared.states.State.{State}
 use Rattle.model.specs.declared.states.State.TheVariants.{Running, Waiting, InHand}
@@ -17,9 +18,11 @@ use Rattle.model.specs.Refusing.{is_waiting, is_in_hand, no_mutator, holds_fault
 use Rattle.model.specs.Faults.{fault_page, wants_scan, wants_save}
 use Rattle.model.specs.Images.{image_words}
 use Rattle.model.specs.Calls.{moving_view, carried_out, turned_down, call}
+use Rattle.images.specs.Lent.{machine, Writes}
 use Rattle.heap.specs.Effects.{Does}
 use Rattle.heap.specs.declared.faults.Fault.{Fault}
 use Rattle.whole_runs.specs.Hands.{handed_out, page_held, IsOf, HandsMatch, AllRun, is_on, at_hand}
+use Rattle.whole_runs.proofs.Hands.{is_fault_call, hands_kept}
 
 -- Answers of another kind
 
@@ -107,8 +110,8 @@ module _ (L : Rules) (z : Machine) (m p n : ℕ) where
   abbrev Emptied : Outcome Machine → Type 0
   Emptied o = (k : ℕ) → handed_out (o.left.heap.state k) ≡ cond (eqb m k) None (handed_out (z.heap.state k))
 
-  worked_off : Emptied (carried_out L z (Resolve m p n))
-  worked_off =
+  resolved : Emptied (carried_out L z (Resolve m p n))
+  resolved =
       let run = at_changed z.heap.state m Running refl in
       each Emptied (wants_scan z.heap p) (wants_save z.heap p) _ _ _ run run run
 
@@ -117,7 +120,7 @@ module _ (L : Rules) (z : Machine) (m p n : ℕ) where
   spent yes' =
       elim (ltb n (image_words z.heap.memory)) as (λ b. Emptied (unless (refuse_if b Short (refuse_if (not (holds_fault (moving_view L z.heap) m p)) NoFault None)) (turned_down L z (Resolve m p n)) (carried_out L z (Resolve m p n)))) [
         | true ↦ λ k. ap (λ b. handed_out (cond b (changed z.heap.state m (Waiting p)) z.heap.state k)) yes' ∙ at_changed z.heap.state m (Waiting p) refl k
-        | false ↦ subst (λ b. Emptied (unless (refuse_if (not b) NoFault None) (turned_down L z (Resolve m p n)) (carried_out L z (Resolve m p n)))) (sym yes') worked_off
+        | false ↦ subst (λ b. Emptied (unless (refuse_if (not b) NoFault None) (turned_down L z (Resolve m p n)) (carried_out L z (Resolve m p n)))) (sym yes') resolved
       ]
 
 -- A fault that is left over is put back: the empty buffer is too short
@@ -205,6 +208,21 @@ module _ (s : ℕ → State) (hands : List (Option Fault)) (fit : HandsMatch s h
 
   pub hand_empty : (m : ℕ) → m < 4 → is_waiting (s m) ≡ true → get_or hands m None ≡ None
   hand_empty m few w = none_held (get_or hands m None) ((fit m few).0 ∙ waiting_none (s m) w)
+
+-- a fault that is at hand is worked off as the call asks
+pub as_asked : (L : Rules) (h k : Model) (hands : List (Option Fault)) (xs ys : List ℕ) (m p : ℕ) (f : Fault) (a : Answer) → HandsMatch h.state hands → at_hand hands m p ≡ true → get_or hands m None ≡ Some f → Writes L h xs (Resolve f.mutator f.page (length xs)) k ys a → Writes L h xs (Resolve m p (length xs)) k ys a
+as_asked L h k hands xs ys m p f a fit here is did b =
+    let whose = fault_at h.state hands fit m p f here is in
+    ap₂ (λ i j. call L (machine h xs b) (Resolve i j (length xs))) (sym whose.1) (sym whose.2) ∙ did b
+
+-- and its hand is empty then
+pub worked_off : (L : Rules) (h k : Model) (hands : List (Option Fault)) (xs ys : List ℕ) (m p : ℕ) (a : Answer) → HandsMatch h.state hands → length hands ≡ 4 → at_hand hands m p ≡ true → Writes L h xs (Resolve m p (length xs)) k ys a → HandsMatch k.state (set hands m None)
+worked_off L h k hands xs ys m p a fit long here did =
+    emptied h.state hands fit long k.state m (λ j. sym (ap (λ o. handed_out (o.left.heap.state j)) (did (λ i. 0))) ∙ spent L (machine h xs (λ i. 0)) m p (length xs) (sym (agree h.state hands fit m p) ∙ here) j)
+
+-- a call that is neither TAKE nor RESOLVE leaves the hands as they match
+pub still_match : (L : Rules) (z : Machine) (c : Call) (g : Model) (hands : List (Option Fault)) → is_fault_call c ≡ false → g.state ≡ (call L z c).left.heap.state → HandsMatch z.heap.state hands → HandsMatch g.state hands
+still_match L z c g hands plain left fit k few = ((fit k few).0 ∙ sym (ap (λ s. handed_out (s k)) left ∙ hands_kept L z c plain k), (fit k few).1)
 
 -- all hands empty, all mutators running
 pub empty_hands : (s : ℕ → State) → AllRun s → HandsMatch s (None ∷ None ∷ None ∷ None ∷ [])

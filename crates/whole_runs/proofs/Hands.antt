@@ -20,7 +20,24 @@ use Rattle.model.specs.Collecting.{step_left, step_on}
 use Rattle.model.specs.Images.{page_saved, lowest_unsaved, save_left, save_on}
 use Rattle.model.specs.Calls.{moving_view, carried_out, turned_down, call}
 use Rattle.whole_runs.specs.Hands.{handed_out}
-use Rattle.whole_runs.specs.Calls.{fault_call}
+
+-- a TAKE or RESOLVE
+abbrev pub is_fault_call : Call → Bool
+is_fault_call (New m d r w) = false
+is_fault_call (Load m d s i) = false
+is_fault_call (Store m s i x) = false
+is_fault_call (Copy m d f s) = false
+is_fault_call (SetNumber m d n) = false
+is_fault_call (SetNil m d) = false
+is_fault_call (Same m l r) = false
+is_fault_call (Tell m s) = false
+is_fault_call Count = false
+is_fault_call Flip = false
+is_fault_call Step = false
+is_fault_call (Take m) = true
+is_fault_call (Resolve m p n) = true
+is_fault_call (Mark n) = false
+is_fault_call (Save n) = false
 
 -- the states t leave in hand what the states s do
 abbrev pub Kept : (ℕ → State) → (ℕ → State) → Type 0
@@ -103,7 +120,7 @@ save_kept x None = save_ends x None
 save_kept x (Some p) = save_ends (page_saved x p) (lowest_unsaved (page_saved x p).heap)
 
 -- each call
-pub hands_kept : (L : Rules) (x : Machine) (c : Call) → fault_call c ≡ None → Kept x.heap.state (call L x c).left.heap.state
+pub hands_kept : (L : Rules) (x : Machine) (c : Call) → is_fault_call c ≡ false → Kept x.heap.state (call L x c).left.heap.state
 hands_kept L x (New m d r w) f =
     let h = x.heap in
     let s = h.state in
@@ -125,7 +142,7 @@ hands_kept L x (Tell m s) f = either x.heap.state (refusal (moving_view L x.heap
 hands_kept L x Count f = same x.heap.state
 hands_kept L x Flip f = either x.heap.state (refusal (moving_view L x.heap) Flip) (turned_down L x Flip) (carried_out L x Flip) (λ e. same x.heap.state) (λ n. same x.heap.state)
 hands_kept L x Step f = either x.heap.state (refusal (moving_view L x.heap) Step) (turned_down L x Step) (carried_out L x Step) (λ e. same x.heap.state) (λ n. step_kept L x.heap (lowest_unscanned x.heap))
-hands_kept L x (Take m) f = absurd (some_none _ f)
-hands_kept L x (Resolve m p n) f = absurd (some_none _ f)
+hands_kept L x (Take m) f = absurd (true≢false f)
+hands_kept L x (Resolve m p n) f = absurd (true≢false f)
 hands_kept L x (Mark n) f = either x.heap.state (refusal (moving_view L x.heap) (Mark n)) (turned_down L x (Mark n)) (carried_out L x (Mark n)) (λ e. same x.heap.state) (λ n. same x.heap.state)
 hands_kept L x (Save n) f = either x.heap.state (refusal (moving_view L x.heap) (Save n)) (turned_down L x (Save n)) (carried_out L x (Save n)) (λ e. same x.heap.state) (λ n. save_kept x (lowest_unsaved x.heap))

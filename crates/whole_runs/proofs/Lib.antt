@@ -1,6 +1,5 @@
 pub mod Hands
 pub mod Prefixes
 pub mod FaultTurns
-pub mod FaultCalls
-pub mod Turns
+pub mod TurnCalls
 pub mod Starting

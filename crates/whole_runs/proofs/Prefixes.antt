@@ -1,5 +1,5 @@
 -- A call that is lent the first words of a buffer, as a call on the whole of it.
-use Rattle.std.proofs.Common.{◌≡◌, ℕ, ◌+◌, ◌-◌, ◌≤◌, List, ◌++◌, length, get_or, take, drop, sym, ap, ◌∙◌, inl, inr, arith}
+use Rattle.std.proofs.Common.{◌≡◌, ℕ, ◌+◌, ◌-◌, ◌≤◌, min, List, ◌++◌, length, get_or, take, drop, sym, ap, ◌∙◌, inl, inr, arith}
 use Rattle.std.proofs.lemmas.List.{length-take-le, get_or-take, get_or-drop, get_or_append_left, get_or-append_right}
 use Rattle.std.proofs.lemmas.Bool.{cases_lt, cond-true, cond-false, lt-ltb, le-ltb}
 use Rattle.layouts.specs.Layouts.{Rules}
@@ -31,8 +31,12 @@ behind xs ys n long j =
           ∙ sym (get_or-append_right ys (drop n xs) n j 0 long h ∙ get_or-drop n xs (j - n) 0 ∙ ap (λ k. get_or xs k 0) at)
     ]
 
-pub prefix : (L : Rules) (h g : Model) (a : Answer) (c : ℕ → Call) (n : ℕ) (xs ys : List ℕ) → n ≤ length xs → length ys ≡ n → Writes L h (take n xs) (c (length (take n xs))) g ys a → call L (with_buffer h xs) (c n) ≡ outcome (with_buffer g (ys ++ drop n xs)) a
+prefix : (L : Rules) (h g : Model) (a : Answer) (c : ℕ → Call) (n : ℕ) (xs ys : List ℕ) → n ≤ length xs → length ys ≡ n → Writes L h (take n xs) (c (length (take n xs))) g ys a → call L (with_buffer h xs) (c n) ≡ outcome (with_buffer g (ys ++ drop n xs)) a
 prefix L h g a c n xs ys few long did =
     sym (λ i. call L (record { heap = h; buffer = λ j. before xs n few j i }) (c (length-take-le n xs few i)))
     ∙ did (image_view xs)
     ∙ (λ i. outcome (record { heap = g; buffer = λ j. behind xs ys n long j i }) a)
+
+-- a call that is lent so many words, or all if there are fewer
+pub lent_first : (L : Rules) (h g : Model) (a : Answer) (c : ℕ → Call) (xs ys : List ℕ) (k n : ℕ) → n ≡ min k (length xs) → length ys ≡ n → Writes L h (take n xs) (c (length (take n xs))) g ys a → call L (with_buffer h xs) (c (min k (length xs))) ≡ outcome (with_buffer g (ys ++ drop n xs)) a
+lent_first L h g a c xs ys k n is long did = sym (ap (λ m. call L (with_buffer h xs) (c m)) is) ∙ prefix L h g a c n xs ys (omega (arith, is)) long did

@@ -1,30 +1,19 @@
 -- The calls of a list as they are carried out with one buffer.
-use Rattle.std.specs.Prelude.{ℕ, min, List, [], ◌∷◌, Option}
+use Rattle.std.specs.Prelude.{ℕ, min, List, map}
 use Rattle.model.specs.declared.calls.Call.{Call}
 use Rattle.model.specs.declared.calls.Call.TheVariants.{New, Load, Store, Copy, SetNumber, SetNil, Same, Tell, Count, Flip, Step, Take, Resolve, Mark, Save}
-use Rattle.whole_runs.specs.declared.fault_calls.FaultCall.{FaultCall}
+use Rattle.runs.specs.Lists.{as_call}
+use Rattle.whole_runs.specs.declared.turns.Turn.{Turn}
 
--- a TAKE or RESOLVE
-abbrev pub fault_call : Call → Option FaultCall
-fault_call (New m d r w) = Option.None
-fault_call (Load m d s i) = Option.None
-fault_call (Store m s i x) = Option.None
-fault_call (Copy m d f s) = Option.None
-fault_call (SetNumber m d n) = Option.None
-fault_call (SetNil m d) = Option.None
-fault_call (Same m l r) = Option.None
-fault_call (Tell m s) = Option.None
-fault_call Count = Option.None
-fault_call Flip = Option.None
-fault_call Step = Option.None
-fault_call (Take m) = Option.Some (FaultCall.Take m)
-fault_call (Resolve m p n) = Option.Some (FaultCall.Resolve m p n)
-fault_call (Mark n) = Option.None
-fault_call (Save n) = Option.None
-
-abbrev pub as_call : FaultCall → Call
-as_call (FaultCall.Take m) = Take m
-as_call (FaultCall.Resolve m p n) = Resolve m p n
+-- the call as the definitions of both heaps have it
+abbrev pub turn_call : Turn → Call
+turn_call (Turn.Mutator c) = as_call c
+turn_call Turn.Flip = Flip
+turn_call Turn.Step = Step
+turn_call (Turn.Take m) = Take m
+turn_call (Turn.Resolve m p n) = Resolve m p n
+turn_call (Turn.Mark n) = Mark n
+turn_call (Turn.Save n) = Save n
 
 -- the call with a buffer of n words: it is lent no more than there are
 abbrev pub within : ℕ → Call → Call
@@ -45,5 +34,4 @@ within n (Mark k) = Mark (min k n)
 within n (Save k) = Save (min k n)
 
 abbrev pub all_within : ℕ → List Call → List Call
-all_within n [] = []
-all_within n (c ∷ cs) = within n c ∷ all_within n cs
+all_within n cs = map (within n) cs

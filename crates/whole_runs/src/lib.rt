@@ -1,7 +1,7 @@
 #![tactic(auto)]
 
-mod answer_forms;
-mod fault_calls;
 pub mod lists;
+mod sessions;
+mod turns;
 
 pub use lists::{run, run_restored};

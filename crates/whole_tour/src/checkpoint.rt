@@ -1,16 +1,11 @@
-use super::answers::same_answer;
-use super::hosts::words;
-use super::stories::{Line, Story, Told, same_lines, show_lines};
+use super::stories::{Story, Told, show_lines};
 use super::zone_calls::{AROUND, MAKER, RULE, TARIFF, make_city};
-use anyhow::anyhow;
 use heap::Heap;
 use layouts::{Layout, Split, Tagged};
 use memory::Host;
 use model::Answer;
 use std::alloc::{AllocError, Global};
-
-// The words that an image of the story's heaps takes: 70, and 128 of a half.
-const IMAGE_WORDS: usize = 198;
+use tariff::{Line, words};
 
 // Where an image has the address of what the rule holds in register 0.
 const MARKET_ADDRESS: usize = 23;
@@ -25,8 +20,8 @@ fn make_objects<H: Host, L: Layout>(story: &mut Story<H, L>) -> Result<(), Alloc
 }
 
 // What a rule was answered: the market's tariff, whether the zone around it is the city, and whether the city is the market.
-#[derive(Clone, Copy)]
-struct Asked {
+#[derive(Clone, Copy, PartialEq, Eq)]
+pub struct Asked {
     tariff: Answer,
     around: Answer,
     other: Answer,
@@ -46,12 +41,6 @@ fn ask<H: Host, L: Layout>(story: &mut Story<H, L>) -> Result<Asked, AllocError>
         around,
         other,
     })
-}
-
-fn same_asked(a: Asked, b: Asked) -> bool {
-    same_answer(a.tariff, b.tariff)
-        && same_answer(a.around, b.around)
-        && same_answer(a.other, b.other)
 }
 
 // The rule stores into a page that is not saved yet, waits, and goes on.
@@ -99,95 +88,73 @@ fn write_again<H: Host, L: Layout>(story: &mut Story<H, L>) -> Result<Asked, All
     ask(story)
 }
 
-// The story of an image on a heap over a host.
-fn told_on<H: Host + Drop, L: Layout + Drop>(
-    memory: Global,
-    host: H,
-    layout: L,
-) -> anyhow::Result<(Told, Asked)> {
-    let buffer = words(memory, IMAGE_WORDS)?;
-    let Ok(heap) = Heap::make(host, layout) else {
-        return Err(anyhow!("no heap"));
-    };
-    let mut story = Story::on(heap, buffer, memory);
-    let asked = checkpoint(&mut story);
-    let told = story.end();
-    Ok((told, asked?))
+/// The story of an image on a heap over a host, and that of a heap restored from the image on another host.
+#[derive(Drop)]
+pub struct RoundTrip {
+    /// The number of the layout.
+    layout: u32,
+    pub told: Told<Asked>,
+    again: Told<Asked>,
 }
 
-// The story of a heap restored from an image.
-fn told_again<H: Host + Drop, L: Layout + Drop>(
-    memory: Global,
-    host: H,
-    layout: L,
-    image: &[u32],
-) -> anyhow::Result<(Told, Asked)> {
-    let buffer = words(memory, IMAGE_WORDS)?;
-    let Ok(heap) = Heap::restore(host, layout, image) else {
-        return Err(anyhow!("an image refused"));
-    };
-    let mut story = Story::on(heap, buffer, memory);
-    let asked = write_again(&mut story);
-    let told = story.end();
-    Ok((told, asked?))
-}
-
-// Whether two images have the same words.
-fn same_words(left: &[u32], right: &[u32]) -> bool {
-    let mut equal = left.len() == right.len();
-    for (a, b) in left.iter().zip(right.iter()) {
-        if *a != *b {
-            equal = false;
-        }
+impl RoundTrip {
+    /// Carries out both stories.
+    pub fn make<H: Host + Drop, G: Host + Drop, L: Layout + Copy>(
+        alloc: Global,
+        host: H,
+        other: G,
+        layout: L,
+    ) -> anyhow::Result<RoundTrip> {
+        let mut story = Story::on(alloc, host, layout)?;
+        let asked = checkpoint(&mut story);
+        let told = story.end(asked)?;
+        let mut story = Story::from_image(alloc, other, layout, told.buffer.as_slice())?;
+        let asked = write_again(&mut story);
+        let again = story.end(asked)?;
+        Ok(RoundTrip {
+            layout: layout.number(),
+            told,
+            again,
+        })
     }
-    equal
-}
 
-/// Carries out the story of an image on a heap over a host, restores the image on another host, and prints both. The image.
-pub fn show_checkpoint<H: Host + Drop, G: Host + Drop, L: Layout + Copy>(
-    rt: &impl Print,
-    memory: Global,
-    host: H,
-    other: G,
-    layout: L,
-) -> anyhow::Result<Told> {
-    let (told, before) = told_on(memory, host, layout)?;
-    show_lines(rt, told.lines.as_slice())?;
-    println!(rt; "the image restored on another host")?;
-    let (again, after) = told_again(memory, other, layout, told.buffer.as_slice())?;
-    show_lines(rt, again.lines.as_slice())?;
-    let answers = same_asked(before, after);
-    let image = same_words(told.buffer.as_slice(), again.buffer.as_slice());
-    println!(rt; "  the answers of before the image: {answers}")?;
-    println!(rt; "  the same image written again: {image}")?;
-    Ok(told)
-}
+    // Whether the restored heap answers as the first did before the image.
+    fn answers_again(&self) -> bool {
+        self.told.found == self.again.found
+    }
 
-/// Carries out the story of an image, and says whether the answers are the given ones, and the restored heap writes its image
-/// again.
-pub fn compare_checkpoint<H: Host + Drop, G: Host + Drop, L: Layout + Copy>(
-    rt: &impl Print,
-    memory: Global,
-    name: &str,
-    host: H,
-    other: G,
-    layout: L,
-    expected: &[Line],
-) -> anyhow::Result<()> {
-    let number = layout.number();
-    let (told, before) = told_on(memory, host, layout)?;
-    let (again, after) = told_again(memory, other, layout, told.buffer.as_slice())?;
-    let answers = same_lines(told.lines.as_slice(), expected) && same_asked(before, after);
-    let image = same_words(told.buffer.as_slice(), again.buffer.as_slice());
-    println!(rt;
-        "  {name}, layout {number}: the same answers: {answers}, the same image again: {image}"
-    )?;
-    Ok(())
+    // Whether the restored heap writes its image again.
+    fn writes_again(&self) -> bool {
+        self.told.buffer == self.again.buffer
+    }
+
+    /// Prints both stories.
+    pub fn show(&self, rt: &impl Print) -> anyhow::Result<()> {
+        show_lines(rt, self.told.lines.as_slice())?;
+        println!(rt; "the image restored on another host")?;
+        show_lines(rt, self.again.lines.as_slice())?;
+        let answers = self.answers_again();
+        let image = self.writes_again();
+        println!(rt; "  the answers of before the image: {answers}")?;
+        println!(rt; "  the same image written again: {image}")?;
+        Ok(())
+    }
+
+    /// Says whether the answers are the given ones, and the restored heap writes its image again.
+    pub fn compare(&self, rt: &impl Print, name: &str, expected: &[Line]) -> anyhow::Result<()> {
+        let layout = self.layout;
+        let answers = self.told.lines.as_slice() == expected && self.answers_again();
+        let image = self.writes_again();
+        println!(rt;
+            "  {name}, layout {layout}: the same answers: {answers}, the same image again: {image}"
+        )?;
+        Ok(())
+    }
 }
 
 // A copy of an image with one word altered.
-fn spoilt(memory: Global, image: &[u32], at: usize, word: u32) -> anyhow::Result<Vec<u32>> {
-    let mut copy = image.to_vec(memory)?;
+fn spoilt(alloc: Global, image: &[u32], at: usize, word: u32) -> anyhow::Result<Vec<u32>> {
+    let mut copy = image.to_vec(alloc)?;
     if let Some(place) = copy.get_mut(at) {
         *place = word;
     }
@@ -209,8 +176,7 @@ fn try_restore<H: Host + Drop, L: Layout + Drop>(
             Ok(given)
         }
         Err(rejected) => {
-            let number = rejected.refusal.number();
-            println!(rt; "  RESTORE, {what}: refused {number}")?;
+            println!(rt; "  RESTORE, {what}: {}", rejected.refusal)?;
             Ok(rejected.given)
         }
     }
@@ -218,34 +184,29 @@ fn try_restore<H: Host + Drop, L: Layout + Drop>(
 
 /// Tries to restore spoilt copies of the image of the story, which is in the tagged layout.
 pub fn show_spoilt<H: Host + Drop>(
-    rt: &impl Print,
-    memory: Global,
+    rt: &(impl Print + AllocGlobal),
     host: H,
     image: &[u32],
 ) -> anyhow::Result<()> {
     let address = image.get(MARKET_ADDRESS).copied().unwrap_or(0);
-    let astray = spoilt(memory, image, MARKET_ADDRESS, address.saturating_add(1))?;
-    let unsealed = spoilt(memory, image, 0, 0)?;
-    let third_half = spoilt(memory, image, 3, 2)?;
-    let stray_word = spoilt(memory, image, 70, 5)?;
-    let short = words(memory, 69)?;
-    let (host, layout) = try_restore(
-        rt,
-        "a reference into the market's middle",
-        host,
-        Tagged,
-        astray.as_slice(),
-    )?;
-    let (host, layout) = try_restore(rt, "no seal", host, layout, unsealed.as_slice())?;
-    let (host, layout) = try_restore(rt, "a third half", host, layout, third_half.as_slice())?;
-    let (host, layout) = try_restore(
-        rt,
-        "a word that is not in use",
-        host,
-        layout,
-        stray_word.as_slice(),
-    )?;
-    let (host, layout) = try_restore(rt, "69 words", host, layout, short.as_slice())?;
+    let astray = spoilt(rt.alloc(), image, MARKET_ADDRESS, address.saturating_add(1))?;
+    let unsealed = spoilt(rt.alloc(), image, 0, 0)?;
+    let third_half = spoilt(rt.alloc(), image, 3, 2)?;
+    let stray_word = spoilt(rt.alloc(), image, 70, 5)?;
+    let short = words(rt.alloc(), 69)?;
+    let images = [
+        ("a reference into the market's middle", astray),
+        ("no seal", unsealed),
+        ("a third half", third_half),
+        ("a word that is not in use", stray_word),
+        ("69 words", short),
+    ];
+    let mut given = (host, Tagged);
+    for (what, image) in images {
+        let (host, layout) = given;
+        given = try_restore(rt, what, host, layout, image.as_slice())?;
+    }
+    let (host, layout) = given;
     let (host, _) = try_restore(rt, "the image as it was", host, layout, image)?;
     let _ = try_restore(rt, "the same in the other layout", host, Split, image)?;
     Ok(())
@@ -260,23 +221,20 @@ fn small_image<H: Host, L: Layout>(story: &mut Story<H, L>) -> Result<(), AllocE
 
 /// Prints the words other than 0 of an image of a small heap.
 pub fn show_small_image<H: Host + Drop, L: Layout + Drop>(
-    rt: &impl Print,
-    memory: Global,
+    rt: &(impl Print + AllocGlobal),
     host: H,
     layout: L,
 ) -> anyhow::Result<()> {
-    let buffer = words(memory, IMAGE_WORDS)?;
-    let Ok(heap) = Heap::make(host, layout) else {
-        return Err(anyhow!("no heap"));
-    };
-    let mut story = Story::on(heap, buffer, memory);
+    let mut story = Story::on(rt.alloc(), host, layout)?;
     let ended = small_image(&mut story);
-    let told = story.end();
-    ended?;
-    for (j, word) in told.buffer.as_slice().iter().enumerate() {
-        if *word != 0 {
-            println!(rt; "  word {j}: {word}")?;
-        }
+    let told = story.end(ended)?;
+    for (j, word) in told
+        .buffer
+        .iter()
+        .enumerate()
+        .filter(|(_, word)| **word != 0)
+    {
+        println!(rt; "  word {j}: {word}")?;
     }
     Ok(())
 }

@@ -1,11 +1,10 @@
-use super::stories::{Line, Story, Told, same_lines, show_lines, totals};
+use super::stories::{Story, Told, show_lines, totals};
 use super::zone_calls::{AROUND, MAKER, NewZone, RULE, TARIFF, make_city, make_zone};
-use anyhow::anyhow;
-use heap::Heap;
 use layouts::Layout;
 use memory::Host;
 use model::Answer;
 use std::alloc::{AllocError, Global};
+use tariff::Line;
 
 // The mutator that has the innermost of some nested zones.
 const PLANNER: u32 = 2;
@@ -14,9 +13,6 @@ const PLANNER: u32 = 2;
 const MARKET: u32 = 0;
 
 const HARBOUR: u32 = 1;
-
-// The words that an image of the story's heaps takes: 70, and 128 of a half.
-const IMAGE_WORDS: usize = 198;
 
 // Three zones, the table of tariffs, which is longer than a page, and two drafts that nothing will refer to.
 fn make_zones<H: Host, L: Layout>(story: &mut Story<H, L>) -> Result<(), AllocError> {
@@ -149,48 +145,40 @@ fn collect<H: Host, L: Layout>(story: &mut Story<H, L>) -> Result<(), AllocError
 
 // The story on a heap over a host.
 fn told_on<H: Host + Drop, L: Layout + Drop>(
-    memory: Global,
+    alloc: Global,
     host: H,
     layout: L,
-) -> anyhow::Result<Told> {
-    let buffer = vec![in memory; 0u32; IMAGE_WORDS]?;
-    let Ok(heap) = Heap::make(host, layout) else {
-        return Err(anyhow!("no heap"));
-    };
-    let mut story = Story::on(heap, buffer, memory);
+) -> anyhow::Result<Told<()>> {
+    let mut story = Story::on(alloc, host, layout)?;
     let ended = collect(&mut story);
-    let told = story.end();
-    ended?;
-    Ok(told)
+    Ok(story.end(ended)?)
 }
 
-/// Carries out the story of a collection on a heap over a host, and prints it.
+/// Carries out the story of a collection on a heap over a host, and prints it. Its calls.
 pub fn show_collection<H: Host + Drop, L: Layout + Drop>(
-    rt: &impl Print,
-    memory: Global,
+    rt: &(impl Print + AllocGlobal),
     host: H,
     layout: L,
-) -> anyhow::Result<Told> {
-    let told = told_on(memory, host, layout)?;
+) -> anyhow::Result<Vec<Line>> {
+    let told = told_on(rt.alloc(), host, layout)?;
     show_lines(rt, told.lines.as_slice())?;
     let (scanned, copied) = totals(told.lines.as_slice());
     let equal = scanned == copied;
     println!(rt; "  words copied in all: {copied}, scanned: {scanned}, equal: {equal}")?;
-    Ok(told)
+    Ok(told.lines)
 }
 
 /// Carries out the story of a collection on a heap over a host, and says whether the answers are the given ones.
 pub fn compare_collection<H: Host + Drop, L: Layout + Drop>(
-    rt: &impl Print,
-    memory: Global,
+    rt: &(impl Print + AllocGlobal),
     name: &str,
     host: H,
     layout: L,
     expected: &[Line],
 ) -> anyhow::Result<()> {
     let number = layout.number();
-    let told = told_on(memory, host, layout)?;
-    let equal = same_lines(told.lines.as_slice(), expected);
+    let told = told_on(rt.alloc(), host, layout)?;
+    let equal = told.lines.as_slice() == expected;
     println!(rt; "  {name}, layout {number}: the same answers: {equal}")?;
     Ok(())
 }

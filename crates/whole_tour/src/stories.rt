@@ -1,19 +1,14 @@
-use super::answers::{
-    Shown, of_access, of_done, of_flip, of_resolve, of_same, of_save, of_step, of_tell, same_answer,
-};
+use super::answers::{of_resolve, of_step};
+use anyhow::anyhow;
 use heap::Heap;
 use layouts::Layout;
-use memory::Host;
+use memory::{Host, Refusal};
 use model::Answer;
 use std::alloc::{AllocError, Global};
+use tariff::{Line, words};
 
-/// A call of a story: its name, what it is for, and its answer.
-#[derive(Clone, Copy)]
-pub struct Line {
-    pub call: &'static str,
-    pub purpose: &'static str,
-    pub answer: Answer,
-}
+// The words that an image of the stories' heaps takes: 70, and 128 of a half.
+const IMAGE_WORDS: usize = 198;
 
 /// A heap, a buffer lent to its calls, and the calls made so far.
 pub struct Story<H: Host, L: Layout> {
@@ -22,25 +17,53 @@ pub struct Story<H: Host, L: Layout> {
     lines: Vec<Line>,
 }
 
-/// What a story leaves.
+/// What a story leaves: the buffer, its calls, and what was found.
 #[derive(Drop)]
-pub struct Told {
+pub struct Told<T> {
     pub buffer: Vec<u32>,
     pub lines: Vec<Line>,
+    pub found: T,
 }
 
 impl<H: Host, L: Layout> Story<H, L> {
-    /// A story on a heap, with no call made yet.
-    pub fn on(heap: Heap<H, L>, buffer: Vec<u32>, memory: Global) -> Story<H, L> {
+    // A story on a heap, with no call made yet.
+    fn of(heap: Heap<H, L>, buffer: Vec<u32>, alloc: Global) -> Story<H, L> {
         Story {
             heap,
             buffer,
-            lines: Vec::new(memory),
+            lines: Vec::new(alloc),
         }
     }
 
-    /// Ends the story and its heap.
-    pub fn end(self) -> Told
+    /// A story on a fresh heap over a host, with no call made yet.
+    pub fn on(alloc: Global, host: H, layout: L) -> anyhow::Result<Story<H, L>>
+    where
+        H: Drop,
+        L: Drop,
+    {
+        let buffer = words(alloc, IMAGE_WORDS)?;
+        let heap = Heap::make(host, layout).map_err(|_| anyhow!("no heap"))?;
+        Ok(Story::of(heap, buffer, alloc))
+    }
+
+    /// The same on a heap that is restored from an image.
+    pub fn from_image(
+        alloc: Global,
+        host: H,
+        layout: L,
+        image: &[u32],
+    ) -> anyhow::Result<Story<H, L>>
+    where
+        H: Drop,
+        L: Drop,
+    {
+        let buffer = words(alloc, IMAGE_WORDS)?;
+        let heap = Heap::restore(host, layout, image).map_err(|_| anyhow!("an image refused"))?;
+        Ok(Story::of(heap, buffer, alloc))
+    }
+
+    /// Ends the story and its heap, with what was found.
+    pub fn end<T: Drop>(self, found: Result<T, AllocError>) -> Result<Told<T>, AllocError>
     where
         H: Drop,
         L: Drop,
@@ -51,16 +74,24 @@ impl<H: Host, L: Layout> Story<H, L> {
             lines,
         } = self;
         let _ = heap.into_parts();
-        Told { buffer, lines }
+        Ok(Told {
+            buffer,
+            lines,
+            found: found?,
+        })
     }
 
-    // Adds a line.
-    fn tell_of(
+    // Adds a line with what a call answered, of which `answer` says what it means if the call was not refused.
+    fn add<T, F: FnOnce(T) -> Answer>(
         &mut self,
         call: &'static str,
         purpose: &'static str,
-        answer: Answer,
-    ) -> Result<Answer, AllocError> {
+        res: Result<T, Refusal>,
+        answer: F,
+    ) -> Result<Answer, AllocError>
+        requires { F.IsAlwaysCallable answer }
+    {
+        let answer = res.map_or_else(Answer::Refused, answer);
         self.lines.push(Line {
             call,
             purpose,
@@ -77,8 +108,8 @@ impl<H: Host, L: Layout> Story<H, L> {
         r: u32,
         w: u32,
     ) -> Result<Answer, AllocError> {
-        let answer = of_access(self.heap.new_object(m, d, r, w));
-        self.tell_of("NEW", purpose, answer)
+        let made = self.heap.new_object(m, d, r, w);
+        self.add("NEW", purpose, made, Answer::from)
     }
 
     pub fn load(
@@ -89,8 +120,8 @@ impl<H: Host, L: Layout> Story<H, L> {
         s: u32,
         i: u32,
     ) -> Result<Answer, AllocError> {
-        let answer = of_access(self.heap.load(m, d, s, i));
-        self.tell_of("LOAD", purpose, answer)
+        let loaded = self.heap.load(m, d, s, i);
+        self.add("LOAD", purpose, loaded, Answer::from)
     }
 
     pub fn store(
@@ -101,8 +132,8 @@ impl<H: Host, L: Layout> Story<H, L> {
         i: u32,
         v: u32,
     ) -> Result<Answer, AllocError> {
-        let answer = of_access(self.heap.store(m, s, i, v));
-        self.tell_of("STORE", purpose, answer)
+        let stored = self.heap.store(m, s, i, v);
+        self.add("STORE", purpose, stored, Answer::from)
     }
 
     pub fn copy(
@@ -113,8 +144,8 @@ impl<H: Host, L: Layout> Story<H, L> {
         f: u32,
         s: u32,
     ) -> Result<Answer, AllocError> {
-        let answer = of_done(self.heap.copy(m, d, f, s));
-        self.tell_of("COPY", purpose, answer)
+        let copied = self.heap.copy(m, d, f, s);
+        self.add("COPY", purpose, copied, |()| Answer::Done)
     }
 
     pub fn set_number(
@@ -124,13 +155,13 @@ impl<H: Host, L: Layout> Story<H, L> {
         d: u32,
         n: u32,
     ) -> Result<Answer, AllocError> {
-        let answer = of_done(self.heap.set_number(m, d, n));
-        self.tell_of("SETNUM", purpose, answer)
+        let set = self.heap.set_number(m, d, n);
+        self.add("SETNUM", purpose, set, |()| Answer::Done)
     }
 
     pub fn set_nil(&mut self, purpose: &'static str, m: u32, d: u32) -> Result<Answer, AllocError> {
-        let answer = of_done(self.heap.set_nil(m, d));
-        self.tell_of("SETNIL", purpose, answer)
+        let set = self.heap.set_nil(m, d);
+        self.add("SETNIL", purpose, set, |()| Answer::Done)
     }
 
     pub fn same(
@@ -140,38 +171,38 @@ impl<H: Host, L: Layout> Story<H, L> {
         a: u32,
         b: u32,
     ) -> Result<Answer, AllocError> {
-        let answer = of_same(self.heap.same(m, a, b));
-        self.tell_of("SAME", purpose, answer)
+        let equal = self.heap.same(m, a, b);
+        self.add("SAME", purpose, equal, Answer::Same)
     }
 
     pub fn tell(&mut self, purpose: &'static str, m: u32, s: u32) -> Result<Answer, AllocError> {
-        let answer = of_tell(self.heap.tell(m, s));
-        self.tell_of("TELL", purpose, answer)
+        let kind = self.heap.tell(m, s);
+        self.add("TELL", purpose, kind, Answer::Kind)
     }
 
     pub fn count(&mut self, purpose: &'static str) -> Result<Answer, AllocError> {
-        let answer = Answer::Count(self.heap.count());
-        self.tell_of("COUNT", purpose, answer)
+        let count = self.heap.count();
+        self.add("COUNT", purpose, Ok(count), Answer::Count)
     }
 
     pub fn flip(&mut self, purpose: &'static str) -> Result<Answer, AllocError> {
-        let answer = of_flip(self.heap.flip());
-        self.tell_of("FLIP", purpose, answer)
+        let copied = self.heap.flip();
+        self.add("FLIP", purpose, copied, Answer::Copied)
     }
 
     pub fn step(&mut self, purpose: &'static str) -> Result<Answer, AllocError> {
-        let answer = of_step(self.heap.step());
-        self.tell_of("STEP", purpose, answer)
+        let stepped = self.heap.step();
+        self.add("STEP", purpose, stepped, of_step)
     }
 
     pub fn mark(&mut self, purpose: &'static str) -> Result<Answer, AllocError> {
-        let answer = of_done(self.heap.mark(self.buffer.as_mut_slice()));
-        self.tell_of("MARK", purpose, answer)
+        let marked = self.heap.mark(self.buffer.as_mut_slice());
+        self.add("MARK", purpose, marked, |()| Answer::Done)
     }
 
     pub fn save(&mut self, purpose: &'static str) -> Result<Answer, AllocError> {
-        let answer = of_save(self.heap.save(self.buffer.as_mut_slice()));
-        self.tell_of("SAVE", purpose, answer)
+        let seal = self.heap.save(self.buffer.as_mut_slice());
+        self.add("SAVE", purpose, seal, Answer::from)
     }
 
     /// TAKE and RESOLVE. The fault is spent before a line is added, which may fail.
@@ -184,11 +215,11 @@ impl<H: Host, L: Layout> Story<H, L> {
         match self.heap.take(m) {
             Ok(fault) => {
                 let page = fault.page();
-                let answer = of_resolve(self.heap.resolve(fault, self.buffer.as_mut_slice()));
-                self.tell_of("TAKE", taken, Answer::Fault(page))?;
-                self.tell_of("RESOLVE", resolved, answer)
+                let work = self.heap.resolve(fault, self.buffer.as_mut_slice());
+                self.add("TAKE", taken, Ok(page), Answer::Fault)?;
+                self.add("RESOLVE", resolved, work, of_resolve)
             }
-            Err(refusal) => self.tell_of("TAKE", taken, Answer::Refused(refusal)),
+            Err(refusal) => self.add("TAKE", taken, Err(refusal), Answer::Fault),
         }
     }
 
@@ -205,7 +236,7 @@ impl<H: Host, L: Layout> Story<H, L> {
     /// SAVEs until one seals the image; there are at most 64 pages to save.
     pub fn save_to_the_end(&mut self, purpose: &'static str) -> Result<(), AllocError> {
         for _ in 0..64u32 {
-            if !matches!(self.save(purpose)?, Answer::Saved(false)) {
+            if self.save(purpose)? != Answer::Saved(false) {
                 break;
             }
         }
@@ -216,37 +247,19 @@ impl<H: Host, L: Layout> Story<H, L> {
 /// Prints a story, a line for each call.
 pub fn show_lines(rt: &impl Print, lines: &[Line]) -> anyhow::Result<()> {
     for line in lines {
-        let call = line.call;
-        let purpose = line.purpose;
-        let answer = Shown(line.answer);
-        println!(rt; "  {call}, {purpose}: {answer}")?;
+        println!(rt; "  {line}")?;
     }
     Ok(())
 }
 
-/// Whether two stories have the same answers.
-pub fn same_lines(left: &[Line], right: &[Line]) -> bool {
-    let mut equal = left.len() == right.len();
-    for (a, b) in left.iter().zip(right.iter()) {
-        if !same_answer(a.answer, b.answer) {
-            equal = false;
-        }
-    }
-    equal
-}
-
 /// The words scanned and the words copied by all calls of a story.
 pub fn totals(lines: &[Line]) -> (u32, u32) {
-    let mut scanned = 0u32;
-    let mut copied = 0u32;
-    for line in lines {
+    lines.iter().fold((0u32, 0u32), |(scanned, copied), line| {
         let (s, c) = match line.answer {
             Answer::Copied(c) => (0, c),
             Answer::Scanned(s, c) | Answer::Stepped(_, s, c) => (s, c),
             _ => (0, 0),
         };
-        scanned = scanned.saturating_add(s);
-        copied = copied.saturating_add(c);
-    }
-    (scanned, copied)
+        (scanned.saturating_add(s), copied.saturating_add(c))
+    })
 }

@@ -1,34 +1,27 @@
-use Rattle.std.proofs.Common.{◌≡◌, ◌%◌, false, ◌&&◌, eqb, ltb, length, sym, ap, ◌∙◌, subst, arith, rules}
+use Rattle.std.proofs.Common.{Ok, length, ap, ◌∙◌, subst}
 use Rattle.model.specs.Starts.{both_made, Start.at_make}
 use Rattle.restoring.specs.Restored.{image_view}
 use Rattle.heap.specs.View.{view}
-use Rattle.whole_runs.specs.Calls.{all_within}
-use Rattle.whole_runs.specs.Lists.{with_buffer, CarriedOn}
-use Rattle.whole_runs.proofs.Starting.{carried_out, enough, not_refused, made_when_even}
-use Rattle.whole_runs.proofs.Turns.{as_long}
+use Rattle.heap.specs.Making.{Made}
+use Rattle.runs.proofs.Places.{enough}
+use Rattle.whole_runs.specs.Lists.{with_buffer, make_refusal}
+use Rattle.whole_runs.proofs.Starting.{made_when_even, ran}
 use Rattle.whole_runs.proofs.lists.run.Goals as goal
 
 pub carry_out_all-requires : goal.carry_out_all-requires
 carry_out_all-requires g c =
-    let made = c.in_ok-heap.ensures in
-    (enough (g.H.Host.meaning c.args.host) (length c.args.answers.now) (length c.args.calls.now) made.0 (search rules), λ m. ap (λ h. h.state m) made.1)
+    let means = g.H.Host.meaning in
+    let back = c.in_ok-host.ensures in
+    let made = subst (λ k. Made means k c.in_ok-host.layout (Ok c.in_ok-heap.heap)) (ap (λ p. p.0) back.1) c.in_ok-heap.ensures in
+    (enough (means c.args.host) (length c.args.answers.now) (length c.args.calls.now) made.0 back.0, λ m. ap (λ h. h.state m) made.1)
 
 pub returns : goal.returns
 returns g c =
-    let L = g.L.Layout.rules in
     let means = g.H.Host.meaning in
-    let h = c.args.host in
+    let m = means c.args.host in
     let xs = c.args.buffer.now in
-    let cs = c.args.calls.now in
-    let old = c.args.answers.now in
-    let made = c.in_ok-heap.ensures in
-    let lacks : (eqb ((means h).page_count % 2) 0 && ltb (length old) (length cs)) ≡ false = search rules in
-    let enough_places = enough (means h) (length old) (length cs) made.0 lacks in
-    let back = c.into_parts.ensures in
-    let on = subst (λ m. CarriedOn L (with_buffer (view means c.in_ok-heap.heap) xs) (all_within (length xs) cs) old c.carry_out_all.new.answers c.carry_out_all.new.buffer m) (sym (ap (λ p. means p.0) back)) c.carry_out_all.ensures.carried in
-    let start = both_made (means h).page_count (means h).page_size (image_view xs) in (
-      not_refused (means h) (length old) (length cs) _ lacks ∙ made_when_even (means h) made.0,
-      carried_out L g.met.L.Layout.lawful start (at_make (means h).page_count (means h).page_size (g.met.H.Host.sized h) made.0 (image_view xs)) (all_within (length xs) cs) old c.carry_out_all.new.answers c.carry_out_all.new.buffer (means c.into_parts.result.0) (omega (arith, as_long (length xs) cs, enough_places))
-          (subst (λ k. CarriedOn L (with_buffer k xs) (all_within (length xs) cs) old c.carry_out_all.new.answers c.carry_out_all.new.buffer (means c.into_parts.result.0)) made.1 on),
-      ap (λ p. p.1) back ∙ c.carry_out_all.ensures.layout ∙ made.2,
-    )
+    let back = c.in_ok-host.ensures in
+    let made = subst (λ k. Made means k c.in_ok-host.layout (Ok c.in_ok-heap.heap)) (ap (λ p. p.0) back.1) c.in_ok-heap.ensures in
+    let on = c.carry_out_all.ensures in
+    let starts = at_make m.page_count m.page_size (g.met.H.Host.sized c.args.host) made.0 (image_view xs) in
+    ran g.L.Layout.rules means (make_refusal m) (both_made m.page_count m.page_size (image_view xs)) c.args.host c.args.layout c.args.calls.now c.args.answers.now c.carry_out_all.new.answers xs c.carry_out_all.new.buffer (view means c.in_ok-heap.heap) c.carry_out_all.result g.met.L.Layout.lawful starts back.0 made.0 (made_when_even m made.0) (ap (λ k. with_buffer k xs) made.1) on.carried (on.layout ∙ made.2 ∙ ap (λ p. p.1) back.1)
