@@ -1,47 +1,29 @@
-use super::calls::{Call, Reply, mutator_of};
+use super::calls::{Call, Reply};
 use super::expected::{Doing, Expected, Phase};
 use super::objects::{Item, reach_from};
+use memory::Refusal;
 use std::alloc::{AllocError, Global};
 
 /// What TELL says of an item.
-pub fn told_of(item: Item) -> Reply {
-    match item {
-        Item::Nil => Reply::Nil,
-        Item::Number(n) => Reply::Number(n),
-        Item::Object(_) => Reply::Reference,
+impl From<Item> for Reply {
+    fn from(item: Item) -> Reply {
+        match item {
+            Item::Nil => Reply::Nil,
+            Item::Number(n) => Reply::Number(n),
+            Item::Object(_) => Reply::Reference,
+        }
     }
-}
-
-fn same_item(x: Item, y: Item) -> bool {
-    match (x, y) {
-        (Item::Nil, Item::Nil) => true,
-        (Item::Number(a), Item::Number(b)) => a == b,
-        (Item::Object(a), Item::Object(b)) => a == b,
-        _ => false,
-    }
-}
-
-// Whether a call works on faults, a collection or an image, FLIP aside.
-fn is_managing(call: Call) -> bool {
-    matches!(
-        call,
-        Call::Take { .. }
-            | Call::Resolve { .. }
-            | Call::Mark { .. }
-            | Call::Step
-            | Call::Save { .. }
-    )
 }
 
 impl Expected {
     // What a refused call leaves: a fault goes back if its buffer was too short.
-    fn refuse(&mut self, call: Call, number: u32) -> Reply {
+    fn refuse(&mut self, call: Call, refusal: Refusal) -> Reply {
         if let Call::Resolve { m, page, .. } = call {
-            if number == 5 && self.ledger.in_hand_with(m, page) {
+            if refusal == Refusal::Short && self.ledger.in_hand_with(m, page) {
                 self.ledger.set_doing(m, Doing::Waiting(page));
             }
         }
-        Reply::Refused(number)
+        Reply::Refused(refusal)
     }
 
     // What a trapped call leaves.
@@ -62,8 +44,8 @@ impl Expected {
         Ok(Reply::Copied(found.held_words))
     }
 
-    fn make(&mut self, m: u32, d: u32, r: u32, w: u32) -> Result<Reply, AllocError> {
-        let object = self.objects.make(r, w)?;
+    fn make(&mut self, heap: Global, m: u32, d: u32, r: u32, w: u32) -> Result<Reply, AllocError> {
+        let object = self.objects.make(heap, r, w)?;
         self.ledger.hold(m, d, Item::Object(object));
         let words = r.saturating_add(w).saturating_add(1);
         self.ledger.fresh = self.ledger.fresh.saturating_add(words);
@@ -86,6 +68,11 @@ impl Expected {
         Reply::Done
     }
 
+    fn hold(&mut self, m: u32, d: u32, item: Item) -> Reply {
+        self.ledger.hold(m, d, item);
+        Reply::Done
+    }
+
     fn take(&mut self, m: u32) -> Reply {
         let page = match self.ledger.doing(m) {
             Doing::Waiting(page) | Doing::InHand(page) => page,
@@ -95,15 +82,34 @@ impl Expected {
         Reply::Fault(page)
     }
 
-    fn hold(&mut self, m: u32, d: u32, item: Item) -> Reply {
-        self.ledger.hold(m, d, item);
+    fn resolve(&mut self, m: u32) -> Reply {
+        self.ledger.set_doing(m, Doing::Running);
+        Reply::Resolved
+    }
+
+    fn mark(&mut self) -> Reply {
+        self.ledger.phase = Phase::Imaging;
         Reply::Done
     }
 
-    // Does a call of a mutator that is neither refused nor trapped.
-    fn mutate(&mut self, heap: Global, call: Call) -> Result<Reply, AllocError> {
+    fn step(&mut self, ended: bool) -> Reply {
+        if ended {
+            self.ledger.phase = Phase::Idle;
+        }
+        Reply::Stepped { ended }
+    }
+
+    fn save(&mut self, sealed: bool) -> Reply {
+        if sealed {
+            self.ledger.phase = Phase::Idle;
+        }
+        Reply::Saved { sealed }
+    }
+
+    // Does a call that is neither refused nor trapped.
+    fn act(&mut self, heap: Global, call: Call, found: Reply) -> Result<Reply, AllocError> {
         Ok(match call {
-            Call::New { m, d, r, w } => self.make(m, d, r, w)?,
+            Call::New { m, d, r, w } => self.make(heap, m, d, r, w)?,
             Call::Load { m, d, s, i } => self.load(m, d, s, i),
             Call::Store { m, s, i, v } => self.store(m, s, i, v),
             Call::Copy { m, d, f, s } => {
@@ -112,61 +118,29 @@ impl Expected {
             }
             Call::SetNumber { m, d, n } => self.hold(m, d, Item::Number(n)),
             Call::SetNil { m, d } => self.hold(m, d, Item::Nil),
-            Call::Same { m, a, b } => Reply::Same(same_item(
-                self.ledger.register(m, a),
-                self.ledger.register(m, b),
-            )),
-            Call::Tell { m, s } => told_of(self.ledger.register(m, s)),
+            Call::Same { m, a, b } => {
+                Reply::Same(self.ledger.register(m, a) == self.ledger.register(m, b))
+            }
+            Call::Tell { m, s } => Reply::from(self.ledger.register(m, s)),
             Call::Count => Reply::Count(self.ledger.traps),
-            _ => self.flip(heap)?,
+            Call::Flip => self.flip(heap)?,
+            Call::Step => self.step(found == Reply::Stepped { ended: true }),
+            Call::Take { m } => self.take(m),
+            Call::Resolve { m, .. } => self.resolve(m),
+            Call::Mark { .. } => self.mark(),
+            Call::Save { .. } => self.save(found == Reply::Saved { sealed: true }),
         })
-    }
-
-    // Does a call that works on faults, a collection or an image, and is not refused. Its counts, and whether it ends a
-    // collection or an image, are told.
-    fn manage(&mut self, call: Call, told: Reply) -> Reply {
-        match (call, told) {
-            (Call::Take { m }, _) => self.take(m),
-            (Call::Resolve { m, .. }, _) => {
-                self.ledger.set_doing(m, Doing::Running);
-                Reply::Scanned {
-                    scanned: 0,
-                    copied: 0,
-                }
-            }
-            (Call::Mark { .. }, _) => {
-                self.ledger.phase = Phase::Imaging;
-                Reply::Done
-            }
-            (Call::Step, Reply::Stepped { ended: true, .. })
-            | (Call::Save { .. }, Reply::Saved(true)) => {
-                self.ledger.phase = Phase::Idle;
-                told
-            }
-            (Call::Save { .. }, _) => Reply::Saved(false),
-            _ => Reply::Stepped {
-                ended: false,
-                scanned: 0,
-                copied: 0,
-            },
-        }
     }
 
     /// What a call answers. Of the answer found, it is told only that the call trapped and on which page, that a STEP ended and
     /// that a SAVE sealed.
     pub fn answer(&mut self, heap: Global, call: Call, found: Reply) -> Result<Reply, AllocError> {
-        let number = self.refusal(call);
-        if number != 0 {
-            return Ok(self.refuse(call, number));
+        if let Err(refusal) = self.admit(call) {
+            return Ok(self.refuse(call, refusal));
         }
-        if let Reply::Trapped(page) = found {
-            if let Some(m) = mutator_of(call) {
-                return Ok(self.trap(m, page));
-            }
+        match (call.may_trap(), found) {
+            (Some(m), Reply::Trapped(page)) => Ok(self.trap(m, page)),
+            _ => self.act(heap, call, found),
         }
-        if is_managing(call) {
-            return Ok(self.manage(call, found));
-        }
-        self.mutate(heap, call)
     }
 }

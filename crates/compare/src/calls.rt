@@ -1,7 +1,10 @@
+use memory::Refusal;
 use std::fmt;
 
+// This model has types of its own for calls, answers, phases and layouts, so that it shares nothing with what it tests.
+
 /// A call of the heap, with its arguments: mutators m and f, registers d, s, v, a and b, slot i.
-#[derive(Clone, Copy)]
+#[derive(Clone, Copy, PartialEq, Eq)]
 pub enum Call {
     New { m: u32, d: u32, r: u32, w: u32 },
     Load { m: u32, d: u32, s: u32, i: u32 },
@@ -21,82 +24,105 @@ pub enum Call {
     Save { lent: usize },
 }
 
+/// A kind of calls, without the arguments.
+#[derive(Clone, Copy)]
+pub enum CallKind {
+    New,
+    Load,
+    Store,
+    Copy,
+    SetNumber,
+    SetNil,
+    Same,
+    Tell,
+    Count,
+    Flip,
+    Step,
+    Take,
+    Resolve,
+    Mark,
+    Save,
+}
+
 /// How many kinds of calls there are.
 pub const KINDS: usize = 15;
 
-/// The names of the calls, by their kinds.
-pub const NAMES: [&str; KINDS] = [
-    "NEW", "LOAD", "STORE", "COPY", "SETNUM", "SETNIL", "SAME", "TELL", "COUNT", "FLIP", "STEP",
-    "TAKE", "RESOLVE", "MARK", "SAVE",
+/// All kinds, in their order.
+pub const CALL_KINDS: [CallKind; KINDS] = [
+    CallKind::New,
+    CallKind::Load,
+    CallKind::Store,
+    CallKind::Copy,
+    CallKind::SetNumber,
+    CallKind::SetNil,
+    CallKind::Same,
+    CallKind::Tell,
+    CallKind::Count,
+    CallKind::Flip,
+    CallKind::Step,
+    CallKind::Take,
+    CallKind::Resolve,
+    CallKind::Mark,
+    CallKind::Save,
 ];
 
-/// The number of a call's kind.
-pub fn kind_of(call: Call) -> usize {
-    match call {
-        Call::New { .. } => 0,
-        Call::Load { .. } => 1,
-        Call::Store { .. } => 2,
-        Call::Copy { .. } => 3,
-        Call::SetNumber { .. } => 4,
-        Call::SetNil { .. } => 5,
-        Call::Same { .. } => 6,
-        Call::Tell { .. } => 7,
-        Call::Count => 8,
-        Call::Flip => 9,
-        Call::Step => 10,
-        Call::Take { .. } => 11,
-        Call::Resolve { .. } => 12,
-        Call::Mark { .. } => 13,
-        Call::Save { .. } => 14,
+impl fmt::Display for CallKind {
+    fn fmt<W: fmt::Write>(&self, f: &mut fmt::Formatter<W>) -> fmt::Result {
+        let name = match self {
+            CallKind::New => "NEW",
+            CallKind::Load => "LOAD",
+            CallKind::Store => "STORE",
+            CallKind::Copy => "COPY",
+            CallKind::SetNumber => "SETNUM",
+            CallKind::SetNil => "SETNIL",
+            CallKind::Same => "SAME",
+            CallKind::Tell => "TELL",
+            CallKind::Count => "COUNT",
+            CallKind::Flip => "FLIP",
+            CallKind::Step => "STEP",
+            CallKind::Take => "TAKE",
+            CallKind::Resolve => "RESOLVE",
+            CallKind::Mark => "MARK",
+            CallKind::Save => "SAVE",
+        };
+        write!(f, "{name}")
     }
 }
 
-/// The mutator of a call that may trap.
-pub fn mutator_of(call: Call) -> Option<u32> {
-    match call {
-        Call::New { m, .. } | Call::Load { m, .. } | Call::Store { m, .. } => Some(m),
-        _ => None,
+impl Call {
+    pub fn kind(self) -> CallKind {
+        match self {
+            Call::New { .. } => CallKind::New,
+            Call::Load { .. } => CallKind::Load,
+            Call::Store { .. } => CallKind::Store,
+            Call::Copy { .. } => CallKind::Copy,
+            Call::SetNumber { .. } => CallKind::SetNumber,
+            Call::SetNil { .. } => CallKind::SetNil,
+            Call::Same { .. } => CallKind::Same,
+            Call::Tell { .. } => CallKind::Tell,
+            Call::Count => CallKind::Count,
+            Call::Flip => CallKind::Flip,
+            Call::Step => CallKind::Step,
+            Call::Take { .. } => CallKind::Take,
+            Call::Resolve { .. } => CallKind::Resolve,
+            Call::Mark { .. } => CallKind::Mark,
+            Call::Save { .. } => CallKind::Save,
+        }
+    }
+
+    /// The mutator of a call that may trap.
+    pub fn may_trap(self) -> Option<u32> {
+        match self {
+            Call::New { m, .. } | Call::Load { m, .. } | Call::Store { m, .. } => Some(m),
+            _ => None,
+        }
     }
 }
 
-/// Whether two calls that may trap are the same.
-pub fn same_call(x: Call, y: Call) -> bool {
-    match (x, y) {
-        (
-            Call::New { m, d, r, w },
-            Call::New {
-                m: n,
-                d: e,
-                r: q,
-                w: v,
-            },
-        ) => { m == n && d == e && r == q && w == v }
-        (
-            Call::Load { m, d, s, i },
-            Call::Load {
-                m: n,
-                d: e,
-                s: t,
-                i: j,
-            },
-        ) => { m == n && d == e && s == t && i == j }
-        (
-            Call::Store { m, s, i, v },
-            Call::Store {
-                m: n,
-                s: t,
-                i: j,
-                v: u,
-            },
-        ) => { m == n && s == t && i == j && v == u }
-        _ => false,
-    }
-}
-
-/// What a call answers.
-#[derive(Clone, Copy)]
+/// What a call answers, but for the work of a STEP or a RESOLVE.
+#[derive(Clone, Copy, PartialEq, Eq)]
 pub enum Reply {
-    Refused(u32),
+    Refused(Refusal),
     Trapped(u32),
     Done,
     Same(bool),
@@ -106,22 +132,15 @@ pub enum Reply {
     Count(u32),
     Fault(u32),
     Copied(u32),
-    Scanned {
-        scanned: u32,
-        copied: u32,
-    },
-    Stepped {
-        ended: bool,
-        scanned: u32,
-        copied: u32,
-    },
-    Saved(bool),
+    Resolved,
+    Stepped { ended: bool },
+    Saved { sealed: bool },
 }
 
 impl fmt::Display for Reply {
     fn fmt<W: fmt::Write>(&self, f: &mut fmt::Formatter<W>) -> fmt::Result {
         match *self {
-            Reply::Refused(number) => write!(f, "refused {number}"),
+            Reply::Refused(refusal) => write!(f, "{refusal}"),
             Reply::Trapped(page) => write!(f, "trapped on page {page}"),
             Reply::Done => write!(f, "done"),
             Reply::Same(same) => write!(f, "same {same}"),
@@ -131,60 +150,57 @@ impl fmt::Display for Reply {
             Reply::Count(count) => write!(f, "{count}"),
             Reply::Fault(page) => write!(f, "fault on page {page}"),
             Reply::Copied(words) => write!(f, "{words} copied"),
-            Reply::Scanned { scanned, copied } => write!(f, "{scanned} scanned {copied} copied"),
-            Reply::Stepped {
-                ended,
-                scanned,
-                copied,
-            } => write!(f, "ended {ended} {scanned} scanned {copied} copied"),
-            Reply::Saved(sealed) => write!(f, "sealed {sealed}"),
+            Reply::Resolved => write!(f, "resolved"),
+            Reply::Stepped { ended } => write!(f, "ended {ended}"),
+            Reply::Saved { sealed } => write!(f, "sealed {sealed}"),
         }
     }
 }
 
-/// Whether two answers are the same.
-pub fn same_reply(x: Reply, y: Reply) -> bool {
-    match (x, y) {
-        (Reply::Done, Reply::Done)
-        | (Reply::Nil, Reply::Nil)
-        | (Reply::Reference, Reply::Reference) => true,
-        (Reply::Refused(a), Reply::Refused(b))
-        | (Reply::Trapped(a), Reply::Trapped(b))
-        | (Reply::Number(a), Reply::Number(b))
-        | (Reply::Count(a), Reply::Count(b))
-        | (Reply::Fault(a), Reply::Fault(b))
-        | (Reply::Copied(a), Reply::Copied(b)) => a == b,
-        (Reply::Same(a), Reply::Same(b)) | (Reply::Saved(a), Reply::Saved(b)) => a == b,
-        (Reply::Scanned { .. }, Reply::Scanned { .. }) => true,
-        (Reply::Stepped { ended: a, .. }, Reply::Stepped { ended: b, .. }) => a == b,
-        _ => false,
+/// The words that a call scanned and copied.
+#[derive(Clone, Copy, Default)]
+pub struct Work {
+    pub scanned: u32,
+    pub copied: u32,
+}
+
+/// The words scanned, and those copied.
+impl From<(u32, u32)> for Work {
+    fn from(counts: (u32, u32)) -> Work {
+        let (scanned, copied) = counts;
+        Work { scanned, copied }
     }
 }
 
-/// Something that is not as expected.
+impl fmt::Display for Work {
+    fn fmt<W: fmt::Write>(&self, f: &mut fmt::Formatter<W>) -> fmt::Result {
+        write!(f, "{} scanned {} copied", self.scanned, self.copied)
+    }
+}
+
+/// All that a call answers. The work is not foretold, and 0 for most calls.
 #[derive(Clone, Copy)]
-pub struct Difference {
-    pub what: &'static str,
-    pub expected: Reply,
-    pub found: Reply,
+pub struct Answer {
+    pub reply: Reply,
+    pub work: Work,
 }
 
-/// No difference if two numbers are equal.
-pub fn differ(what: &'static str, expected: u32, found: u32) -> Option<Difference> {
-    if expected == found {
-        return None;
+/// A reply without work.
+impl From<Reply> for Answer {
+    fn from(reply: Reply) -> Answer {
+        Answer {
+            reply,
+            work: Work::default(),
+        }
     }
-    Some(Difference {
-        what,
-        expected: Reply::Count(expected),
-        found: Reply::Count(found),
-    })
 }
 
-/// A difference if a number is above a limit.
-pub fn exceed(what: &'static str, limit: u32, found: u32) -> Option<Difference> {
-    if found <= limit {
-        return None;
+impl fmt::Display for Answer {
+    fn fmt<W: fmt::Write>(&self, f: &mut fmt::Formatter<W>) -> fmt::Result {
+        match self.reply {
+            Reply::Resolved => write!(f, "{}", self.work),
+            Reply::Stepped { .. } => write!(f, "{} {}", self.reply, self.work),
+            _ => write!(f, "{}", self.reply),
+        }
     }
-    differ(what, limit, found)
 }

@@ -1,10 +1,11 @@
 ghost use Rattle.std.specs.Prelude.{ℕ, ◌<◌};
 
 use super::objects::{Item, Objects, Shape};
+use super::packing::Packing;
 use std::alloc::{AllocError, Global};
 
 /// What a mutator does.
-#[derive(Clone, Copy)]
+#[derive(Clone, Copy, PartialEq, Eq)]
 pub enum Doing {
     Running,
     Waiting(u32),
@@ -12,18 +13,11 @@ pub enum Doing {
 }
 
 /// What is in progress.
-#[derive(Clone, Copy)]
+#[derive(Clone, Copy, PartialEq, Eq)]
 pub enum Phase {
     Idle,
     Collecting,
     Imaging,
-}
-
-/// Which values a slot takes.
-#[derive(Clone, Copy)]
-pub enum Packing {
-    Tagged,
-    Split,
 }
 
 /// The words of a page and the pages of a half.
@@ -34,16 +28,21 @@ pub struct Sizes {
 }
 
 impl Sizes {
-    pub fn half(&self) -> u32 {
+    /// The pages of both halves.
+    pub fn pages(self) -> u32 {
+        self.half_pages.saturating_mul(2)
+    }
+
+    pub fn half(self) -> u32 {
         self.page.saturating_mul(self.half_pages)
     }
 
     /// The pages that so many words take.
-    pub fn pages_for(&self, words: u32) -> u32 {
+    pub fn pages_for(self, words: u32) -> u32 {
         words.div_ceil(self.page.max(1))
     }
 
-    pub fn image(&self) -> usize {
+    pub fn image(self) -> usize {
         self.half().saturating_add(70) as usize
     }
 }
@@ -95,18 +94,19 @@ impl Ledger {
     }
 
     pub fn runs(&self, m: u32) -> bool {
-        matches!(self.doing(m), Doing::Running)
+        self.doing(m) == Doing::Running
     }
 
     pub fn all_run(&self) -> bool {
-        self.runs(0) && self.runs(1) && self.runs(2) && self.runs(3)
+        self.doing.iter().all(|doing| *doing == Doing::Running)
+    }
+
+    pub fn any_runs(&self) -> bool {
+        self.doing.iter().any(|doing| *doing == Doing::Running)
     }
 
     pub fn in_hand_with(&self, m: u32, page: u32) -> bool {
-        match self.doing(m) {
-            Doing::InHand(held) => held == page,
-            _ => false,
-        }
+        self.doing(m) == Doing::InHand(page)
     }
 
     pub fn waits(&self, m: u32) -> bool {
@@ -114,15 +114,15 @@ impl Ledger {
     }
 
     pub fn is_idle(&self) -> bool {
-        matches!(self.phase, Phase::Idle)
+        self.phase == Phase::Idle
     }
 
     pub fn is_collecting(&self) -> bool {
-        matches!(self.phase, Phase::Collecting)
+        self.phase == Phase::Collecting
     }
 
     pub fn is_imaging(&self) -> bool {
-        matches!(self.phase, Phase::Imaging)
+        self.phase == Phase::Imaging
     }
 }
 
@@ -155,7 +155,7 @@ impl Expected {
     }
 
     /// The heap that an image of this one restores.
-    pub fn snapshot(&self, heap: Global) -> Result<Expected, AllocError> {
+    pub fn snapshot(&self) -> Result<Expected, AllocError> {
         let mut ledger = self.ledger;
         ledger.doing = [Doing::Running; 4];
         ledger.phase = Phase::Idle;
@@ -164,7 +164,7 @@ impl Expected {
         Ok(Expected {
             sizes: self.sizes,
             packing: self.packing,
-            objects: self.objects.same_again(heap)?,
+            objects: self.objects.clone()?,
             ledger,
         })
     }
@@ -186,19 +186,35 @@ impl Expected {
                 .saturating_mul(self.sizes.page),
             _ => self.ledger.copied,
         };
-        self.sizes
-            .half()
-            .saturating_sub(taken)
-            .saturating_sub(self.ledger.fresh)
+        self.new_start().saturating_sub(taken)
     }
 
-    /// Whether a slot of an object takes an item.
-    pub fn admits(&self, shape: Shape, slot: u32, item: Item) -> bool {
-        match (self.packing, item) {
-            (Packing::Tagged, Item::Number(n)) => n < 2147483648,
-            (Packing::Tagged, _) => true,
-            (Packing::Split, Item::Number(_)) => slot >= shape.references,
-            (Packing::Split, _) => slot < shape.references,
+    /// Where the new objects begin, counted from the first word of to-space.
+    pub fn new_start(&self) -> u32 {
+        self.sizes.half().saturating_sub(self.ledger.fresh)
+    }
+
+    /// The first word of to-space.
+    pub fn first_word(&self) -> u32 {
+        if self.ledger.upper {
+            self.sizes.half()
+        } else {
+            0
+        }
+    }
+
+    /// The place of a page of to-space among its pages.
+    pub fn inside(&self, page: u32) -> Option<u32> {
+        let inside = page.checked_sub(self.first_page())?;
+        (inside < self.sizes.half_pages).then_some(inside)
+    }
+
+    /// The first page of to-space.
+    pub fn first_page(&self) -> u32 {
+        if self.ledger.upper {
+            self.sizes.half_pages
+        } else {
+            0
         }
     }
 }

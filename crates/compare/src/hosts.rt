@@ -17,32 +17,22 @@ fn littered(heap: Global, pages: u32, size: u32) -> anyhow::Result<Vec<u32>> {
 }
 
 fn layered<H: Host + Drop>(below: H) -> anyhow::Result<SmallPages<H>> {
-    match SmallPages::make(below, 2) {
-        Ok(layer) => Ok(layer),
-        Err(_) => Err(anyhow!("no layer")),
-    }
+    SmallPages::make(below, 2).map_err(|_| anyhow!("no layer"))
 }
 
 impl Fresh for CheckHost {
     fn fresh(heap: Global, pages: u32, size: u32) -> anyhow::Result<CheckHost> {
-        match CheckHost::make(littered(heap, pages, size)?, pages, size) {
-            Ok(host) => Ok(host),
-            Err(_) => Err(anyhow!("no check host")),
-        }
+        let words = littered(heap, pages, size)?;
+        CheckHost::make(words, pages, size).map_err(|_| anyhow!("no check host"))
     }
 }
 
 /// The last page is in the first frame.
 impl Fresh for TableHost {
     fn fresh(heap: Global, pages: u32, size: u32) -> anyhow::Result<TableHost> {
-        let mut frames = Vec::new(heap);
-        for page in 0..pages {
-            frames.push(pages - 1 - page)?;
-        }
-        match TableHost::make(littered(heap, pages, size)?, frames.as_slice(), pages, size) {
-            Ok(host) => Ok(host),
-            Err(_) => Err(anyhow!("no table host")),
-        }
+        let frames = (0..pages).rev().collect::<Vec<u32>>(heap)?;
+        let words = littered(heap, pages, size)?;
+        TableHost::make(words, frames.as_slice(), pages, size).map_err(|_| anyhow!("no table host"))
     }
 }
 

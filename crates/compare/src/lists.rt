@@ -1,251 +1,217 @@
-use super::calls::{Call, Difference, differ};
-use super::expected::{Packing, Phase, Sizes};
+use super::calls::Call;
+use super::differences::{Difference, Stop};
+use super::expected::{Phase, Sizes};
 use super::hosts::Fresh;
-use super::imaging::{check_image, restore_on};
-use super::performing::{Hands, end_heap, perform};
-use super::rights::{rights_difference, unused_difference};
+use super::imaging::{Image, check_image, restore_on};
+use super::packing::Packing;
+use super::performing::spend;
+use super::rights::{check_rights, check_unused};
 use super::sessions::Session;
 use super::tallying::Tally;
-use super::walking::{compare_graph, compare_registers};
-use heap::Heap;
+use super::walking::{check_graph, check_registers};
+use heap::{Fault, Heap};
 use layouts::Layout;
 use memory::Host;
 use std::alloc::Global;
-use std::mem;
 
-// How a part of a list ended.
-#[derive(Clone, Copy)]
+// How a part of a list ended, if there was no difference.
+#[derive(Clone, Copy, PartialEq, Eq)]
 enum Ending {
     Over,
     /// The list goes on, on the heap that the image restores.
     GoesOn,
-    Differs(Difference),
 }
 
-fn make_call<H: Host, L: Layout>(
-    heap: &mut Heap<H, L>,
-    hands: &mut Hands,
-    session: &mut Session,
-    call: Call,
-) -> anyhow::Result<Option<Difference>> {
-    let found = perform(heap, hands, session.buffer.as_mut_slice(), call);
-    Ok(session.judge(call, found)?)
+/// A list of calls on a heap, with the faults that the heap handed out, by mutator. It must be ended, so that no fault is
+/// dropped.
+pub struct List<'a, H: Host, L: Layout> {
+    pub heap: Heap<H, L>,
+    pub hands: [Option<Fault>; 4],
+    pub session: &'a mut Session,
+    pub layout: L,
+    /// The calls of each part of the list.
+    pub calls: u32,
 }
 
 // Compares the image that was just sealed, on hosts of another kind.
 fn check_sealed<B: Host + Fresh + Drop, L: Layout + Copy>(
     session: &mut Session,
     layout: L,
-) -> anyhow::Result<Option<Difference>> {
+) -> Result<(), Stop> {
     session.sealed = false;
-    let Some(snapshot) = mem::replace(&mut session.snapshot, None) else {
-        return Ok(differ("an image that was never marked", 0, 1));
+    let Some(snapshot) = session.snapshot.take() else {
+        let what = "an image that was never marked";
+        return Err(Stop::from(Difference::new(what, false, true)));
     };
-    let differs = check_image::<B, L>(
-        session.alloc,
-        layout,
-        session.buffer.as_slice(),
-        &snapshot,
-        &mut session.random,
-        &mut session.tally,
-    )?;
+    let image = Image {
+        words: session.buffer.as_slice(),
+        expected: &snapshot,
+    };
+    let random = &mut session.random;
+    check_image::<B, L>(session.alloc, layout, image, random, &mut session.tally)?;
     session.snapshot = Some(snapshot);
-    Ok(differs)
-}
-
-// Works a mutator's fault off, the one in hand first.
-fn settle<H: Host, L: Layout>(
-    heap: &mut Heap<H, L>,
-    hands: &mut Hands,
-    session: &mut Session,
-    m: u32,
-) -> anyhow::Result<Option<Difference>> {
-    let lent = session.expected.sizes.image();
-    for _ in 0..3 {
-        let token = session.tokens[(m % 4) as usize];
-        let call = match token {
-            Some(page) => Call::Resolve { m, page, lent },
-            None if session.expected.ledger.waits(m) => Call::Take { m },
-            None => break,
-        };
-        let differs = make_call(heap, hands, session, call)?;
-        if differs.is_some() {
-            return Ok(differs);
-        }
-    }
-    Ok(None)
-}
-
-// Ends a collection or an image.
-fn complete<H: Host, L: Layout>(
-    heap: &mut Heap<H, L>,
-    hands: &mut Hands,
-    session: &mut Session,
-) -> anyhow::Result<Option<Difference>> {
-    let lent = session.expected.sizes.image();
-    for _ in 0..33 {
-        let call = match session.expected.ledger.phase {
-            Phase::Idle => break,
-            Phase::Collecting => Call::Step,
-            Phase::Imaging => Call::Save { lent },
-        };
-        let differs = make_call(heap, hands, session, call)?;
-        if differs.is_some() {
-            return Ok(differs);
-        }
-    }
-    Ok(None)
-}
-
-// Works off all faults, ends what is in progress, and compares the whole heap. Three registers are lost by that.
-fn wind_up<H: Host, L: Layout>(
-    heap: &mut Heap<H, L>,
-    hands: &mut Hands,
-    session: &mut Session,
-) -> anyhow::Result<Option<Difference>> {
-    for m in 0..4 {
-        let differs = settle(heap, hands, session, m)?;
-        if differs.is_some() {
-            return Ok(differs);
-        }
-    }
-    let differs = complete(heap, hands, session)?;
-    if differs.is_some() {
-        return Ok(differs);
-    }
-    let told = compare_registers(heap, &session.expected, &mut session.tally);
-    if told.is_some() {
-        return Ok(told);
-    }
-    Ok(compare_graph(
-        heap,
-        session.alloc,
-        &session.expected,
-        &mut session.random,
-        &mut session.tally,
-    )?)
-}
-
-// Makes so many calls of a list.
-fn play<H: Host, B: Host + Fresh + Drop, L: Layout + Copy>(
-    heap: &mut Heap<H, L>,
-    hands: &mut Hands,
-    session: &mut Session,
-    layout: L,
-    calls: u32,
-    may_go_on: bool,
-) -> anyhow::Result<Ending> {
-    for _ in 0..calls {
-        let call = session.next_call();
-        if let Some(differs) = make_call(heap, hands, session, call)? {
-            return Ok(Ending::Differs(differs));
-        }
-        if session.sealed {
-            if let Some(differs) = check_sealed::<B, L>(session, layout)? {
-                return Ok(Ending::Differs(differs));
-            }
-            if may_go_on && session.random.one_in(2) {
-                return Ok(Ending::GoesOn);
-            }
-        }
-    }
-    Ok(Ending::Over)
+    Ok(())
 }
 
 // Compares the rights of all pages and the unused words of a host that was a heap's.
-fn host_difference<H: Host>(host: &mut H, session: &Session) -> Option<Difference> {
-    let rights = rights_difference(host, &session.expected, &session.watch);
-    rights.or(unused_difference(host, &session.expected, &session.watch))
+fn check_host<H: Host>(host: &mut H, session: &Session) -> Result<(), Stop> {
+    check_rights(host, session.alloc, &session.expected, &session.watch)?;
+    check_unused(host, &session.expected, &session.watch)?;
+    Ok(())
 }
 
-// The end of a list: mostly in the middle of what is in progress, where the rights of all pages are compared, once in three
-// times after all is ended, where all objects are.
-fn end_list<H: Host + Drop, L: Layout + Drop>(
-    mut heap: Heap<H, L>,
-    mut hands: Hands,
-    session: &mut Session,
-) -> anyhow::Result<Option<Difference>> {
-    let winds_up = session.random.one_in(3);
-    let ended = if winds_up {
-        wind_up(&mut heap, &mut hands, session)
-    } else {
-        Ok(None)
-    };
-    let mut host = end_heap(heap, hands);
-    let differs = ended?;
-    if winds_up || differs.is_some() {
-        return Ok(differs);
+impl<'a, H: Host + Fresh + Drop, L: Layout + Copy> List<'a, H, L> {
+    fn make_call(&mut self, call: Call) -> Result<(), Stop> {
+        let found = self.perform(call);
+        self.session.judge(call, found)
     }
-    let rights = rights_difference(&mut host, &session.expected, &session.watch);
-    Ok(rights.or(unused_difference(&mut host, &session.expected, &session.watch)))
-}
 
-// Ends a list after a part of it.
-fn end_after<H: Host + Drop, L: Layout + Drop>(
-    heap: Heap<H, L>,
-    hands: Hands,
-    session: &mut Session,
-    ending: anyhow::Result<Ending>,
-) -> anyhow::Result<Option<Difference>> {
-    match ending {
-        Ok(Ending::Over | Ending::GoesOn) => end_list(heap, hands, session),
-        Ok(Ending::Differs(differs)) => {
-            let _ = end_heap(heap, hands);
-            Ok(Some(differs))
+    // Works a mutator's fault off, the one in hand first.
+    fn settle(&mut self, m: u32) -> Result<(), Stop> {
+        let lent = self.session.expected.sizes.image();
+        for _ in 0..3 {
+            let call = match self.page_in_hand(m) {
+                Some(page) => Call::Resolve { m, page, lent },
+                None if self.session.expected.ledger.waits(m) => Call::Take { m },
+                None => break,
+            };
+            self.make_call(call)?;
         }
-        Err(error) => {
-            let _ = end_heap(heap, hands);
-            Err(error)
+        Ok(())
+    }
+
+    // Ends a collection or an image.
+    fn complete(&mut self) -> Result<(), Stop> {
+        let lent = self.session.expected.sizes.image();
+        for _ in 0..33 {
+            let call = match self.session.expected.ledger.phase {
+                Phase::Idle => break,
+                Phase::Collecting => Call::Step,
+                Phase::Imaging => Call::Save { lent },
+            };
+            self.make_call(call)?;
+        }
+        Ok(())
+    }
+
+    // Works off all faults, ends what is in progress, and compares the whole heap. Three registers are lost by that.
+    fn wind_up(&mut self) -> Result<(), Stop> {
+        for m in 0..4 {
+            self.settle(m)?;
+        }
+        self.complete()?;
+        let heap = &mut self.heap;
+        let session = &mut *self.session;
+        check_registers(heap, &session.expected, &mut session.tally)?;
+        let random = &mut session.random;
+        check_graph(
+            heap,
+            session.alloc,
+            &session.expected,
+            random,
+            &mut session.tally,
+        )
+    }
+
+    // Makes the calls of a part of the list. Images are restored on hosts of kind B.
+    fn play<B: Host + Fresh + Drop>(&mut self, may_go_on: bool) -> Result<Ending, Stop> {
+        for _ in 0..self.calls {
+            let call = self.next_call();
+            self.make_call(call)?;
+            if self.session.sealed {
+                check_sealed::<B, L>(self.session, self.layout)?;
+                if may_go_on && self.session.random.one_in(2) {
+                    return Ok(Ending::GoesOn);
+                }
+            }
+        }
+        Ok(Ending::Over)
+    }
+
+    // Spends all faults that are left, and ends the heap: its host, and the list's session.
+    fn finish(self) -> (H, &'a mut Session) {
+        let List {
+            mut heap,
+            hands,
+            session,
+            layout: _,
+            calls: _,
+        } = self;
+        // One by one: an iterator over them could drop a fault, which no proof allows.
+        let [a, b, c, d] = hands;
+        spend(&mut heap, a);
+        spend(&mut heap, b);
+        spend(&mut heap, c);
+        spend(&mut heap, d);
+        let (host, _) = heap.into_parts();
+        (host, session)
+    }
+
+    // Ends the list where it is.
+    fn stop(self, stop: Stop) -> Result<(), Stop> {
+        let _ = self.finish();
+        Err(stop)
+    }
+
+    // The end of the list: mostly in the middle of what is in progress, where the rights of all pages are compared, once in
+    // three times after all is ended, where all objects are.
+    fn end(mut self) -> Result<(), Stop> {
+        if self.session.random.one_in(3) {
+            let ended = self.wind_up();
+            let _ = self.finish();
+            return ended;
+        }
+        let (mut host, session) = self.finish();
+        check_host(&mut host, session)
+    }
+
+    // The heap that the image in the buffer restores.
+    fn restored<B: Host + Fresh + Drop>(&self) -> Result<Heap<B, L>, Stop> {
+        let session = &*self.session;
+        let words = session.buffer.as_slice();
+        restore_on::<B, L>(session.alloc, self.layout, session.expected.sizes, words)
+    }
+
+    // The second part of the list, on a restored heap, unless this one's host differs. The faults in hand are those of this
+    // heap.
+    fn go_on<B: Host + Fresh + Drop>(self, restored: Heap<B, L>) -> Result<(), Stop> {
+        let List {
+            heap,
+            hands,
+            session,
+            layout,
+            calls,
+        } = self;
+        let (mut host, _) = heap.into_parts();
+        let checked = check_host(&mut host, session);
+        session.resume();
+        let mut list = List {
+            heap: restored,
+            hands,
+            session,
+            layout,
+            calls,
+        };
+        let ending = match checked {
+            Ok(()) => list.play::<H>(false),
+            Err(stop) => Err(stop),
+        };
+        match ending {
+            Ok(_) => list.end(),
+            Err(stop) => list.stop(stop),
         }
     }
-}
 
-// The second part of a list, on a restored heap, unless the first one's host differs. The faults in hand are those of the
-// first heap.
-fn go_on<A: Host + Fresh + Drop, B: Host + Fresh + Drop, L: Layout + Copy>(
-    mut heap: Heap<B, L>,
-    mut hands: Hands,
-    session: &mut Session,
-    layout: L,
-    calls: u32,
-    differs: Option<Difference>,
-) -> anyhow::Result<Option<Difference>> {
-    session.resume();
-    let ending = match differs {
-        Some(differs) => Ok(Ending::Differs(differs)),
-        None => play::<B, A, L>(&mut heap, &mut hands, session, layout, calls, false),
-    };
-    end_after(heap, hands, session, ending)
-}
-
-// A list on a heap that was just made.
-fn run_made<A: Host + Fresh + Drop, B: Host + Fresh + Drop, L: Layout + Copy>(
-    mut heap: Heap<A, L>,
-    session: &mut Session,
-    layout: L,
-    calls: u32,
-) -> anyhow::Result<Option<Difference>> {
-    let resumes = !session.random.one_in(3);
-    let mut hands: Hands = [None, None, None, None];
-    let ending = play::<A, B, L>(&mut heap, &mut hands, session, layout, calls, resumes);
-    let Ok(Ending::GoesOn) = ending else {
-        return end_after(heap, hands, session, ending);
-    };
-    let sizes = session.expected.sizes;
-    let restored = restore_on::<B, L>(session.alloc, layout, sizes, session.buffer.as_slice());
-    match restored {
-        Ok(Ok(other)) => {
-            let (mut host, _) = heap.into_parts();
-            let differs = host_difference(&mut host, session);
-            go_on::<A, B, L>(other, hands, session, layout, calls, differs)
-        }
-        Ok(Err(number)) => {
-            let _ = end_heap(heap, hands);
-            Ok(differ("RESTORE of a good image", 0, number))
-        }
-        Err(error) => {
-            let _ = end_heap(heap, hands);
-            Err(error)
+    // Plays the list, in most cases with a second part.
+    fn run<B: Host + Fresh + Drop>(mut self) -> Result<(), Stop> {
+        let resumes = !self.session.random.one_in(3);
+        match self.play::<B>(resumes) {
+            Ok(Ending::Over) => self.end(),
+            Ok(Ending::GoesOn) => match self.restored::<B>() {
+                Ok(restored) => self.go_on(restored),
+                Err(stop) => self.stop(stop),
+            },
+            Err(stop) => self.stop(stop),
         }
     }
 }
@@ -261,23 +227,30 @@ pub struct Group {
     pub calls: u32,
 }
 
-fn print_difference(
-    rt: &impl Print,
-    seed: u32,
-    call: u32,
-    differs: Difference,
-) -> anyhow::Result<()> {
-    let what = differs.what;
-    let expected = differs.expected;
-    let found = differs.found;
-    println!(rt;
-        "  DIFFERENCE: seed {seed}, call {call}, {what}: expected {expected}, found {found}"
-    )?;
-    Ok(())
-}
-
 // A list on a host of kind A; its images are restored on hosts of kind B.
 fn run_list<A: Host + Fresh + Drop, B: Host + Fresh + Drop, L: Layout + Copy>(
+    session: &mut Session,
+    layout: L,
+    calls: u32,
+) -> Result<(), Stop> {
+    let sizes = session.expected.sizes;
+    let host = A::fresh(session.alloc, sizes.pages(), sizes.page)?;
+    let heap = Heap::make(host, layout).map_err(|rejected| Difference::refused(
+        "MAKE",
+        rejected.refusal,
+    ))?;
+    let list = List {
+        heap,
+        hands: [None, None, None, None],
+        session,
+        layout,
+        calls,
+    };
+    list.run::<B>()
+}
+
+// Runs a list, and prints a difference.
+fn print_list<A: Host + Fresh + Drop, B: Host + Fresh + Drop, L: Layout + Copy>(
     rt: &impl Print,
     alloc: Global,
     layout: L,
@@ -286,16 +259,16 @@ fn run_list<A: Host + Fresh + Drop, B: Host + Fresh + Drop, L: Layout + Copy>(
     tally: &mut Tally,
 ) -> anyhow::Result<()> {
     let mut session = Session::new(alloc, group.sizes, group.packing, seed)?;
-    let pages = group.sizes.half_pages.saturating_mul(2);
-    let host = A::fresh(alloc, pages, group.sizes.page)?;
-    let differs = match Heap::make(host, layout) {
-        Ok(heap) => run_made::<A, B, L>(heap, &mut session, layout, group.calls)?,
-        Err(rejected) => differ("MAKE", 0, rejected.refusal.number()),
-    };
+    let played = run_list::<A, B, L>(&mut session, layout, group.calls);
     session.tally.lists = 1;
-    if let Some(differs) = differs {
-        session.tally.differences = 1;
-        print_difference(rt, seed, session.number, differs)?;
+    match played {
+        Ok(()) => {}
+        Err(Stop::Differs(difference)) => {
+            session.tally.differences = 1;
+            let call = session.number;
+            println!(rt; "  DIFFERENCE: seed {seed}, call {call}, {difference}")?;
+        }
+        Err(Stop::Failed(error)) => return Err(error),
     }
     tally.add(&session.tally);
     Ok(())
@@ -310,8 +283,8 @@ pub fn run_group<A: Host + Fresh + Drop, B: Host + Fresh + Drop, L: Layout + Cop
     group: Group,
     total: &mut Tally,
 ) -> anyhow::Result<()> {
-    let mut tally = Tally::new();
-    let pages = group.sizes.half_pages.saturating_mul(2);
+    let mut tally = Tally::default();
+    let pages = group.sizes.pages();
     let size = group.sizes.page;
     let number = layout.number();
     let first = group.seed;
@@ -321,7 +294,7 @@ pub fn run_group<A: Host + Fresh + Drop, B: Host + Fresh + Drop, L: Layout + Cop
     )?;
     for k in 0..group.lists {
         let seed = first.wrapping_add(k);
-        run_list::<A, B, L>(rt, alloc, layout, group, seed, &mut tally)?;
+        print_list::<A, B, L>(rt, alloc, layout, group, seed, &mut tally)?;
     }
     tally.print(rt)?;
     total.add(&tally);

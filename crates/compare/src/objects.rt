@@ -1,115 +1,117 @@
 use std::alloc::{AllocError, Global};
 
 /// What a slot or a register holds; an object by its place in the list of objects.
-#[derive(Clone, Copy)]
+#[derive(Clone, Copy, PartialEq, Eq)]
 pub enum Item {
     Nil,
     Number(u32),
     Object(u32),
 }
 
-/// The slots of an object: where they begin in the list of slots, how many are for references and how many for numbers.
-#[derive(Clone, Copy)]
+impl Item {
+    pub fn is_number(self) -> bool {
+        matches!(self, Item::Number(_))
+    }
+
+    pub fn is_object(self) -> bool {
+        matches!(self, Item::Object(_))
+    }
+}
+
+/// How many slots an object has, and how many of them, the first ones, are for references.
+#[derive(Clone, Copy, Default)]
 pub struct Shape {
-    first: u32,
     pub references: u32,
-    pub numbers: u32,
+    pub slots: u32,
 }
 
 impl Shape {
-    pub fn slots(&self) -> u32 {
-        self.references.saturating_add(self.numbers)
+    pub fn words(self) -> u32 {
+        self.slots.saturating_add(1)
     }
+}
 
-    pub fn words(&self) -> u32 {
-        self.slots().saturating_add(1)
+#[derive(Clone, Drop)]
+struct Object {
+    references: u32,
+    slots: Vec<Item>,
+}
+
+impl Object {
+    fn shape(&self) -> Shape {
+        Shape {
+            references: self.references,
+            slots: small(self.slots.len()),
+        }
     }
 }
 
 /// Objects that never move, in the order they were made in.
-#[derive(Drop)]
+#[derive(Clone, Drop)]
 pub struct Objects {
-    shapes: Vec<Shape>,
-    slots: Vec<Item>,
+    objects: Vec<Object>,
 }
 
 impl Objects {
     pub fn none(heap: Global) -> Objects {
         Objects {
-            shapes: Vec::new(heap),
-            slots: Vec::new(heap),
+            objects: Vec::new(heap),
         }
     }
 
-    pub fn same_again(&self, heap: Global) -> Result<Objects, AllocError> {
-        Ok(Objects {
-            shapes: Vec::from_slice(heap, self.shapes.as_slice())?,
-            slots: Vec::from_slice(heap, self.slots.as_slice())?,
-        })
-    }
-
     pub fn count(&self) -> usize {
-        self.shapes.len()
+        self.objects.len()
     }
 
     pub fn shape(&self, object: u32) -> Shape {
-        match self.shapes.get(object as usize) {
-            Some(shape) => *shape,
-            None => Shape {
-                first: 0,
-                references: 0,
-                numbers: 0,
-            },
+        match self.objects.get(object as usize) {
+            Some(found) => found.shape(),
+            None => Shape::default(),
+        }
+    }
+
+    /// What the slots of an object hold.
+    pub fn slots(&self, object: u32) -> &[Item] {
+        match self.objects.get(object as usize) {
+            Some(found) => found.slots.as_slice(),
+            None => &[],
         }
     }
 
     /// What a slot of an object holds.
     pub fn slot(&self, object: u32, slot: u32) -> Item {
-        let place = self.shape(object).first.saturating_add(slot);
-        match self.slots.get(place as usize) {
-            Some(item) => *item,
-            None => Item::Nil,
-        }
+        self.slots(object)
+            .get(slot as usize)
+            .copied()
+            .unwrap_or(Item::Nil)
     }
 
     pub fn set_slot(&mut self, object: u32, slot: u32, item: Item) {
-        let place = self.shape(object).first.saturating_add(slot);
-        if let Some(held) = self.slots.get_mut(place as usize) {
-            *held = item;
+        if let Some(found) = self.objects.get_mut(object as usize) {
+            if let Some(held) = found.slots.get_mut(slot as usize) {
+                *held = item;
+            }
         }
     }
 
     /// Makes an object, and gives its place in the list.
-    pub fn make(&mut self, references: u32, numbers: u32) -> Result<u32, AllocError> {
-        let place = small(self.shapes.len());
-        let first = small(self.slots.len());
-        for _ in 0..references {
-            self.slots.push(Item::Nil)?;
-        }
-        for _ in 0..numbers {
-            self.slots.push(Item::Number(0))?;
-        }
-        self.shapes.push(Shape {
-            first,
-            references,
-            numbers,
-        })?;
+    pub fn make(&mut self, heap: Global, references: u32, numbers: u32) -> Result<u32, AllocError> {
+        let place = small(self.objects.len());
+        let mut slots = vec![in heap; Item::Nil; references as usize]?;
+        slots.resize(references.saturating_add(numbers) as usize, Item::Number(0))?;
+        self.objects.push(Object { references, slots })?;
         Ok(place)
     }
 }
 
 /// A length as a number of 32 bits.
-pub fn small(length: usize) -> u32 {
-    match u32::try_from(length) {
-        Ok(n) => n,
-        Err(_) => u32::MAX,
-    }
+fn small(length: usize) -> u32 {
+    u32::try_from(length).unwrap_or(u32::MAX)
 }
 
 /// How an object is reached: from a register, or from a slot of another object.
 #[derive(Clone, Copy)]
 pub enum Route {
-    Unreached,
     Register(u32),
     Slot { object: u32, slot: u32 },
 }
@@ -119,8 +121,8 @@ pub enum Route {
 pub struct Reached {
     /// The objects, those nearer to the registers first.
     pub order: Vec<u32>,
-    /// How each object of the list is reached.
-    pub routes: Vec<Route>,
+    /// How each object of the list is reached, if it is.
+    routes: Vec<Option<Route>>,
     /// The words of those that registers hold.
     pub held_words: u32,
     /// The words of all of them.
@@ -128,11 +130,8 @@ pub struct Reached {
 }
 
 impl Reached {
-    pub fn route(&self, object: u32) -> Route {
-        match self.routes.get(object as usize) {
-            Some(route) => *route,
-            None => Route::Unreached,
-        }
+    pub fn route(&self, object: u32) -> Option<Route> {
+        self.routes.get(object as usize).copied().flatten()
     }
 
     // Notes that an item is reached by a route.
@@ -140,11 +139,11 @@ impl Reached {
         let Item::Object(object) = item else {
             return Ok(());
         };
-        let Route::Unreached = self.route(object) else {
+        if self.route(object).is_some() {
             return Ok(());
-        };
+        }
         if let Some(known) = self.routes.get_mut(object as usize) {
-            *known = route;
+            *known = Some(route);
         }
         self.words = self.words.saturating_add(objects.shape(object).words());
         self.order.push(object)?;
@@ -153,12 +152,9 @@ impl Reached {
 
     // Notes what the slots of an object hold.
     fn note_slots(&mut self, objects: &Objects, object: u32) -> Result<(), AllocError> {
-        for slot in 0..objects.shape(object).slots() {
-            self.note(
-                objects,
-                objects.slot(object, slot),
-                Route::Slot { object, slot },
-            )?;
+        let held = objects.slots(object);
+        for (slot, item) in (0..u32::MAX).zip(held.iter()) {
+            self.note(objects, *item, Route::Slot { object, slot })?;
         }
         Ok(())
     }
@@ -172,19 +168,20 @@ pub fn reach_from(
 ) -> Result<Reached, AllocError> {
     let mut found = Reached {
         order: Vec::new(heap),
-        routes: vec![in heap; Route::Unreached; objects.count()]?,
+        routes: vec![in heap; None; objects.count()]?,
         held_words: 0,
         words: 0,
     };
-    for k in 0..32u32 {
-        found.note(objects, registers[k as usize], Route::Register(k))?;
+    for (k, item) in (0..32u32).zip(registers.iter()) {
+        found.note(objects, *item, Route::Register(k))?;
     }
     found.held_words = found.words;
+    // An index loop, for the list grows while it is read, which an iterator over it would not allow.
     for k in 0..objects.count() {
-        match found.order.get(k).copied() {
-            Some(object) => found.note_slots(objects, object)?,
-            None => break,
-        }
+        let Some(object) = found.order.get(k).copied() else {
+            break;
+        };
+        found.note_slots(objects, object)?;
     }
     Ok(found)
 }

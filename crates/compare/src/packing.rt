@@ -1,40 +1,57 @@
-use super::expected::Packing;
+use super::objects::{Item, Shape};
 
-/// The layout's number.
-pub fn layout_number(packing: Packing) -> u32 {
-    match packing {
-        Packing::Tagged => 1,
-        Packing::Split => 2,
-    }
+/// How an object's words hold its values, by the layout's number.
+#[derive(Clone, Copy, PartialEq, Eq)]
+pub enum Packing {
+    Tagged = 1,
+    Split = 2,
 }
 
-/// The slots behind a header.
-pub fn slots_of(packing: Packing, header: u32) -> u32 {
-    match packing {
-        Packing::Tagged => header / 2,
-        Packing::Split => (header / 2 % 256).saturating_add(header / 512),
+impl Packing {
+    /// The layout's number.
+    pub fn number(self) -> u32 {
+        self as u32
     }
-}
 
-/// The address in a slot that holds a reference.
-pub fn reference_in(packing: Packing, header: u32, slot: u32, word: u32) -> Option<u32> {
-    let refers = match packing {
-        Packing::Tagged => word % 2 == 0,
-        Packing::Split => slot < header / 2 % 256,
-    };
-    if !refers || word == 0 {
-        return None;
+    pub fn other(self) -> Packing {
+        match self {
+            Packing::Tagged => Packing::Split,
+            Packing::Split => Packing::Tagged,
+        }
     }
-    match packing {
-        Packing::Tagged => Some(word / 2 - 1),
-        Packing::Split => Some(word - 1),
-    }
-}
 
-/// The word of a reference to the address behind that of another reference.
-pub fn next_reference(packing: Packing, word: u32) -> u32 {
-    match packing {
-        Packing::Tagged => word.saturating_add(2),
-        Packing::Split => word.saturating_add(1),
+    /// Whether a slot of an object takes an item.
+    pub fn admits(self, shape: Shape, slot: u32, item: Item) -> bool {
+        match (self, item) {
+            (Packing::Tagged, Item::Number(n)) => n < 2147483648,
+            (Packing::Tagged, _) => true,
+            (Packing::Split, Item::Number(_)) => slot >= shape.references,
+            (Packing::Split, _) => slot < shape.references,
+        }
+    }
+
+    /// The slots behind a header.
+    pub fn slots(self, header: u32) -> u32 {
+        match self {
+            Packing::Tagged => header / 2,
+            Packing::Split => (header / 2 % 256).saturating_add(header / 512),
+        }
+    }
+
+    /// The address in a slot that holds a reference.
+    pub fn reference(self, header: u32, slot: u32, word: u32) -> Option<u32> {
+        match self {
+            Packing::Tagged if word % 2 == 0 => (word / 2).checked_sub(1),
+            Packing::Split if slot < header / 2 % 256 => word.checked_sub(1),
+            _ => None,
+        }
+    }
+
+    /// The word of a reference to the address behind that of another reference.
+    pub fn next_reference(self, word: u32) -> u32 {
+        match self {
+            Packing::Tagged => word.saturating_add(2),
+            Packing::Split => word.saturating_add(1),
+        }
     }
 }

@@ -9,7 +9,7 @@ impl Random {
     pub fn seeded(seed: u32) -> Random {
         let state = seed.wrapping_mul(2654435761) ^ 1540483477;
         Random {
-            state: if state == 0 { 1 } else { state },
+            state: state.max(1),
         }
     }
 
@@ -25,10 +25,7 @@ impl Random {
     /// A number below a limit; 0 for the limit 0.
     pub fn below(&mut self, limit: u32) -> u32 {
         let drawn = self.draw() >> 3;
-        if limit == 0 {
-            return 0;
-        }
-        drawn % limit
+        drawn.checked_rem(limit).unwrap_or(0)
     }
 
     /// Whether something happens that happens once in so many times.

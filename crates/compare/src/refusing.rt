@@ -1,142 +1,102 @@
 use super::calls::Call;
-use super::expected::{Doing, Expected};
+use super::expected::Expected;
+use super::objects::Shape;
+use memory::Refusal;
 
 fn named(m: u32, r: u32) -> bool {
     m <= 3 && r <= 7
 }
 
-// The first number whose test fails; 0 if none does.
-fn first_of(tests: [(bool, u32); 4]) -> u32 {
-    for (passed, number) in tests {
-        if !passed {
-            return number;
-        }
-    }
-    0
+// The refusal of a call that does not pass a test.
+fn must(passed: bool, refusal: Refusal) -> Result<(), Refusal> {
+    if passed { Ok(()) } else { Err(refusal) }
 }
 
 impl Expected {
-    fn new_refusal(&self, m: u32, d: u32, r: u32, w: u32) -> u32 {
+    fn admit_new(&self, m: u32, d: u32, r: u32, w: u32) -> Result<(), Refusal> {
         let slots = r.saturating_add(w);
-        first_of([
-            (named(m, d), 3),
-            (slots <= 255, 4),
-            (self.ledger.runs(m), 11),
-            (slots.saturating_add(1) <= self.room(), 15),
-        ])
+        must(named(m, d), Refusal::Name)?;
+        must(slots <= 255, Refusal::Shape)?;
+        must(self.ledger.runs(m), Refusal::Waits)?;
+        must(slots.saturating_add(1) <= self.room(), Refusal::NoSpace)
     }
 
-    // Refusals of LOAD and STORE but for 3 and 14.
-    fn slot_refusal(&self, m: u32, s: u32, i: u32) -> u32 {
-        let (refers, slots) = match self.held_shape(m, s) {
-            Some(shape) => (true, shape.slots()),
-            None => (false, 0),
-        };
-        first_of([
-            (self.ledger.runs(m), 11),
-            (refers, 12),
-            (i < slots, 13),
-            (true, 0),
-        ])
+    // The shape of an object that has the slot that a LOAD or a STORE is for.
+    fn admit_slot(&self, m: u32, s: u32, i: u32) -> Result<Shape, Refusal> {
+        must(self.ledger.runs(m), Refusal::Waits)?;
+        let shape = self.held_shape(m, s).ok_or(Refusal::NoReference)?;
+        must(i < shape.slots, Refusal::Slot)?;
+        Ok(shape)
     }
 
-    fn load_refusal(&self, m: u32, d: u32, s: u32, i: u32) -> u32 {
-        if !named(m, d) || !named(m, s) {
-            return 3;
-        }
-        self.slot_refusal(m, s, i)
+    fn admit_load(&self, m: u32, d: u32, s: u32, i: u32) -> Result<(), Refusal> {
+        must(named(m, d) && named(m, s), Refusal::Name)?;
+        self.admit_slot(m, s, i)?;
+        Ok(())
     }
 
-    fn store_refusal(&self, m: u32, s: u32, i: u32, v: u32) -> u32 {
-        if !named(m, s) || !named(m, v) {
-            return 3;
-        }
-        let number = self.slot_refusal(m, s, i);
-        if number != 0 {
-            return number;
-        }
-        match self.held_shape(m, s) {
-            Some(shape) if self.admits(shape, i, self.ledger.register(m, v)) => 0,
-            _ => 14,
-        }
+    fn admit_store(&self, m: u32, s: u32, i: u32, v: u32) -> Result<(), Refusal> {
+        must(named(m, s) && named(m, v), Refusal::Name)?;
+        let shape = self.admit_slot(m, s, i)?;
+        let item = self.ledger.register(m, v);
+        must(self.packing.admits(shape, i, item), Refusal::Misfit)
     }
 
-    // Refusals of the calls on registers alone.
-    fn register_refusal(&self, m: u32, names_fit: bool) -> u32 {
-        first_of([
-            (m <= 3 && names_fit, 3),
-            (self.ledger.runs(m), 11),
-            (true, 0),
-            (true, 0),
-        ])
+    // The calls on registers alone.
+    fn admit_registers(&self, m: u32, names_fit: bool) -> Result<(), Refusal> {
+        must(m <= 3 && names_fit, Refusal::Name)?;
+        must(self.ledger.runs(m), Refusal::Waits)
     }
 
-    fn take_refusal(&self, m: u32) -> u32 {
-        if m > 3 {
-            return 3;
-        }
-        match self.ledger.doing(m) {
-            Doing::Waiting(_) => 0,
-            _ => 19,
-        }
+    fn admit_take(&self, m: u32) -> Result<(), Refusal> {
+        must(m <= 3, Refusal::Name)?;
+        must(self.ledger.waits(m), Refusal::NoFault)
     }
 
-    fn resolve_refusal(&self, m: u32, page: u32, lent: usize) -> u32 {
-        let in_hand = match self.ledger.doing(m) {
-            Doing::InHand(held) => held == page,
-            _ => false,
-        };
-        first_of([
-            (lent >= self.sizes.image(), 5),
-            (in_hand, 19),
-            (true, 0),
-            (true, 0),
-        ])
+    // The calls that are lent a buffer.
+    fn admit_buffer(&self, lent: usize) -> Result<(), Refusal> {
+        must(lent >= self.sizes.image(), Refusal::Short)
     }
 
-    fn collection_refusal(&self, call: Call) -> u32 {
-        let ledger = &self.ledger;
+    fn admit_resolve(&self, m: u32, page: u32, lent: usize) -> Result<(), Refusal> {
+        self.admit_buffer(lent)?;
+        must(self.ledger.in_hand_with(m, page), Refusal::NoFault)
+    }
+
+    fn admit_flip(&self) -> Result<(), Refusal> {
+        must(self.ledger.is_idle(), Refusal::Busy)?;
+        must(self.ledger.all_run(), Refusal::FaultStands)
+    }
+
+    fn admit_mark(&self, lent: usize) -> Result<(), Refusal> {
+        self.admit_buffer(lent)?;
+        must(self.ledger.is_idle(), Refusal::Busy)
+    }
+
+    fn admit_save(&self, lent: usize) -> Result<(), Refusal> {
+        self.admit_buffer(lent)?;
+        must(self.ledger.is_imaging(), Refusal::Nothing)
+    }
+
+    /// The refusal of a call that is to be refused, the lowest that applies.
+    pub fn admit(&self, call: Call) -> Result<(), Refusal> {
         match call {
-            Call::Flip => first_of([
-                (ledger.is_idle(), 16),
-                (ledger.all_run(), 17),
-                (true, 0),
-                (true, 0),
-            ]),
-            Call::Step if !ledger.is_collecting() => 18,
-            Call::Mark { lent } => first_of([
-                (lent >= self.sizes.image(), 5),
-                (ledger.is_idle(), 16),
-                (true, 0),
-                (true, 0),
-            ]),
-            Call::Save { lent } => first_of([
-                (lent >= self.sizes.image(), 5),
-                (ledger.is_imaging(), 18),
-                (true, 0),
-                (true, 0),
-            ]),
-            _ => 0,
-        }
-    }
-
-    /// The number that a call is refused with; 0 if it is not.
-    pub fn refusal(&self, call: Call) -> u32 {
-        match call {
-            Call::New { m, d, r, w } => self.new_refusal(m, d, r, w),
-            Call::Load { m, d, s, i } => self.load_refusal(m, d, s, i),
-            Call::Store { m, s, i, v } => self.store_refusal(m, s, i, v),
-            Call::Copy { m, d, f, s } => self.register_refusal(m, d <= 7 && f <= 3 && s <= 7),
+            Call::New { m, d, r, w } => self.admit_new(m, d, r, w),
+            Call::Load { m, d, s, i } => self.admit_load(m, d, s, i),
+            Call::Store { m, s, i, v } => self.admit_store(m, s, i, v),
+            Call::Copy { m, d, f, s } => self.admit_registers(m, d <= 7 && f <= 3 && s <= 7),
             Call::SetNumber { m, d, .. } | Call::SetNil { m, d } => {
-                self.register_refusal(m, d <= 7)
+                self.admit_registers(m, d <= 7)
             }
-            Call::Same { m, a, b } => self.register_refusal(m, a <= 7 && b <= 7),
-            Call::Tell { m, s } => self.register_refusal(m, s <= 7),
-            Call::Take { m } => self.take_refusal(m),
-            Call::Resolve { m, page, lent } => self.resolve_refusal(m, page, lent),
-            Call::Count | Call::Flip | Call::Step | Call::Mark { .. } | Call::Save { .. } => {
-                self.collection_refusal(call)
-            }
+            Call::Same { m, a, b } => self.admit_registers(m, a <= 7 && b <= 7),
+            Call::Tell { m, s } => self.admit_registers(m, s <= 7),
+            Call::Take { m } => self.admit_take(m),
+            Call::Resolve { m, page, lent } => self.admit_resolve(m, page, lent),
+            Call::Count => Ok(()),
+            Call::Flip => self.admit_flip(),
+            Call::Step => must(self.ledger.is_collecting(), Refusal::Nothing),
+            Call::Mark { lent } => self.admit_mark(lent),
+            Call::Save { lent } => self.admit_save(lent),
         }
     }
 }

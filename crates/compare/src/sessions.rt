@@ -1,11 +1,12 @@
-use super::calls::{Call, Difference, Reply, mutator_of, same_reply};
-use super::choosing::{Habit, choose, choose_follow_up};
-use super::expected::{Expected, Packing, Sizes};
+use super::calls::{Answer, Call, Reply};
+use super::choosing::{Chooser, Habit};
+use super::differences::{Difference, Stop};
+use super::expected::{Expected, Sizes};
+use super::packing::Packing;
 use super::random::Random;
 use super::tallying::Tally;
 use super::watching::Watch;
 use std::alloc::{AllocError, Global};
-use std::mem;
 
 /// A list of calls as it goes on.
 #[derive(Drop)]
@@ -15,8 +16,6 @@ pub struct Session {
     pub habit: Habit,
     pub expected: Expected,
     pub watch: Watch,
-    /// The pages of the faults in hand.
-    pub tokens: [Option<u32>; 4],
     /// The call to be made next, if it is settled.
     pub next: Option<Call>,
     pub buffer: Vec<u32>,
@@ -42,110 +41,113 @@ impl Session {
             random,
             habit,
             expected: Expected::new(alloc, sizes, packing),
-            watch: Watch::new(),
-            tokens: [None; 4],
+            watch: Watch::new(alloc),
             next: None,
             buffer: vec![in alloc; 2863311530u32; sizes.image().saturating_add(1)]?,
             snapshot: None,
             sealed: false,
             number: 0,
-            tally: Tally::new(),
+            tally: Tally::default(),
         })
     }
 
-    /// The next call of the list.
-    pub fn next_call(&mut self) -> Call {
-        match mem::replace(&mut self.next, None) {
-            Some(call) => call,
-            None => choose(&mut self.random, &self.expected, self.habit, self.tokens),
+    /// The buffer, as many words of it as are lent.
+    pub fn lend(&mut self, words: usize) -> &mut [u32] {
+        let length = self.buffer.len();
+        &mut self.buffer.as_mut_slice()[..words.min(length)]
+    }
+
+    /// The next call of the list. `tokens` has the pages of the faults in hand.
+    pub fn next_call(&mut self, tokens: [Option<u32>; 4]) -> Call {
+        if let Some(call) = self.next.take() {
+            return call;
         }
+        let mut chooser = Chooser {
+            random: &mut self.random,
+            expected: &self.expected,
+            habit: self.habit,
+        };
+        chooser.choose(tokens)
     }
 
     /// Goes on with the heap that was marked, as it is restored.
     pub fn resume(&mut self) {
-        if let Some(snapshot) = mem::replace(&mut self.snapshot, None) {
+        if let Some(snapshot) = self.snapshot.take() {
             self.expected = snapshot;
         }
-        self.watch = Watch::new();
+        self.watch = Watch::new(self.alloc);
         self.next = None;
         self.tally.resumed = self.tally.resumed.saturating_add(1);
     }
 
-    // Notes which faults are in hand, and settles the next call, if one follows: a resolved mutator mostly makes its call again
-    // at once.
-    fn note_faults(&mut self, call: Call, found: Reply) {
+    // Settles the next call, if one follows: a resolved mutator mostly makes its call again at once.
+    fn settle_next(&mut self, call: Call, found: Reply) {
         match (call, found) {
-            (Call::Take { m }, Reply::Fault(page)) => {
-                self.tokens[(m % 4) as usize] = Some(page);
-            }
-            (Call::Resolve { m, .. }, _) => {
-                self.tokens[(m % 4) as usize] = None;
-                if matches!(found, Reply::Scanned { .. }) && !self.random.one_in(5) {
+            (Call::Resolve { m, .. }, Reply::Resolved) => {
+                if !self.random.one_in(5) {
                     self.next = self.watch.trapped_call(m);
                 }
             }
             (_, Reply::Done) => {
-                self.next = choose_follow_up(&mut self.random, &self.expected, call);
+                let mut chooser = Chooser {
+                    random: &mut self.random,
+                    expected: &self.expected,
+                    habit: self.habit,
+                };
+                self.next = chooser.choose_follow_up(call);
             }
             _ => {}
         }
     }
 
     // What is checked of a call before the expected heap is told of it.
-    fn difference_before(&mut self, call: Call, found: Reply) -> Option<Difference> {
-        if self.expected.refusal(call) != 0 {
-            return None;
+    fn check_before(&mut self, call: Call, found: Answer) -> Result<(), Difference> {
+        if self.expected.admit(call).is_err() {
+            return Ok(());
         }
-        let placed = self.watch.new_difference(&self.expected, call, found);
-        match found {
-            Reply::Trapped(page) => {
-                let m = mutator_of(call).unwrap_or(0);
-                let trapped = self.watch.note_trap(&self.expected, call, m, page);
-                trapped.or(placed)
-            }
-            _ => placed,
+        let placed = self.watch.check_new(&self.expected, call, found);
+        if let Reply::Trapped(page) = found.reply {
+            let m = call.may_trap().unwrap_or(0);
+            self.watch.note_trap(&self.expected, call, m, page)?;
         }
+        placed
     }
 
     // What is checked of a call after the expected heap is told of it.
-    fn difference_after(&mut self, call: Call, found: Reply) -> Option<Difference> {
-        match found {
+    fn check_after(&mut self, call: Call, found: Answer) -> Result<(), Stop> {
+        match found.reply {
             Reply::Refused(_) => {
                 self.watch.note_refused();
-                None
+                Ok(())
             }
-            Reply::Trapped(_) => None,
+            Reply::Trapped(_) => Ok(()),
             _ => self.watch.note(&self.expected, call, found),
         }
     }
 
     fn note_image(&mut self, call: Call, found: Reply) -> Result<(), AllocError> {
-        match (call, found) {
-            (Call::Mark { .. }, Reply::Done) => {
-                self.snapshot = Some(self.expected.snapshot(self.alloc)?);
-            }
-            (Call::Save { .. }, Reply::Saved(sealed)) => self.sealed = sealed,
-            _ => {}
+        if matches!(call, Call::Mark { .. }) && found == Reply::Done {
+            self.snapshot = Some(self.expected.snapshot()?);
+        }
+        if let Reply::Saved { sealed } = found {
+            self.sealed = sealed;
         }
         Ok(())
     }
 
     /// Compares the answer to a call.
-    pub fn judge(&mut self, call: Call, found: Reply) -> Result<Option<Difference>, AllocError> {
+    pub fn judge(&mut self, call: Call, found: Answer) -> Result<(), Stop> {
         self.number = self.number.saturating_add(1);
-        self.tally.count_reply(call, found);
-        let before = self.difference_before(call, found);
-        let expected = self.expected.answer(self.alloc, call, found)?;
-        if !same_reply(expected, found) {
-            return Ok(Some(Difference {
-                what: "the answer",
-                expected,
-                found,
-            }));
+        self.tally.count_answer(call, found);
+        let before = self.check_before(call, found);
+        let expected = self.expected.answer(self.alloc, call, found.reply)?;
+        if expected != found.reply {
+            return Err(Stop::from(Difference::new("the answer", expected, found)));
         }
-        let after = self.difference_after(call, found);
-        self.note_faults(call, found);
-        self.note_image(call, found)?;
-        Ok(before.or(after))
+        let after = self.check_after(call, found);
+        self.settle_next(call, found.reply);
+        self.note_image(call, found.reply)?;
+        before?;
+        after
     }
 }

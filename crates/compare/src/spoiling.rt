@@ -1,275 +1,227 @@
-use super::calls::{Difference, differ};
-use super::expected::Expected;
+use super::differences::{Difference, Stop, differ};
 use super::hosts::Fresh;
+use super::imaging::Image;
 use super::objects::Item;
-use super::packing::{layout_number, next_reference, reference_in, slots_of};
 use super::tallying::Tally;
 use check_host::CheckHost;
 use heap::Heap;
 use layouts::Layout;
-use memory::{Host, Rejected};
+use memory::{Host, Refusal, Rejected};
 use std::alloc::{AllocError, Global};
 
-/// A word of an image, 0 behind its end.
-pub fn word_at(image: &[u32], j: u32) -> u32 {
-    match image.get(j as usize) {
-        Some(word) => *word,
-        None => 0,
-    }
-}
-
-// A word to be written over one of an image, and the number that the image must then be refused with.
+// A word to be written over one of an image, and what the image must then be refused with.
 #[derive(Clone, Copy)]
 struct Change {
     at: u32,
     word: u32,
-    number: u32,
+    refusal: Refusal,
 }
 
-// Changes that make every image another one or a bad one.
-fn plain_changes(expected: &Expected) -> [Change; 11] {
-    let sizes = expected.sizes;
-    let ledger = &expected.ledger;
-    let other = if sizes.page == 16 { 32 } else { 16 };
-    let copied = sizes.half().saturating_sub(ledger.fresh).saturating_add(1);
-    let change = [
-        (0, 0, 7),
-        (0, other, 6),
-        (1, sizes.half_pages.saturating_add(1), 6),
-        (2, 3 - layout_number(expected.packing).min(2), 6),
-        (2, 0, 6),
-        (3, 2, 7),
-        (4, copied, 7),
-        (4, ledger.copied.saturating_add(1), 7),
-        (5, u32::MAX, 7),
-        (6, 3, 7),
-        (68, 4294967295, 7),
-    ];
-    let mut changes = [Change {
-        at: 0,
-        word: 0,
-        number: 7,
-    }; 11];
-    for (made, (at, word, number)) in changes[..].iter_mut().zip(change) {
-        *made = Change { at, word, number };
-    }
-    changes
-}
-
-fn push_bad(changes: &mut Vec<Change>, at: u32, word: u32) -> Result<(), AllocError> {
-    changes.push(Change {
+// A change that makes an image one of another size or layout.
+fn other(at: u32, word: u32) -> Change {
+    Change {
         at,
         word,
-        number: 7,
-    })?;
-    Ok(())
+        refusal: Refusal::OtherImage,
+    }
 }
 
-// Headers made even, unused words that are not 0, and a new object cut.
-fn push_word_changes(
-    changes: &mut Vec<Change>,
-    image: &[u32],
-    expected: &Expected,
-) -> Result<(), AllocError> {
-    let copied = expected.ledger.copied;
-    let fresh = expected.ledger.fresh;
-    let new_start = expected.sizes.half().saturating_sub(fresh);
-    if copied > 0 {
-        push_bad(changes, 70, word_at(image, 70).saturating_sub(1))?;
+// A change that leaves no image.
+fn bad(at: u32, word: u32) -> Change {
+    Change {
+        at,
+        word,
+        refusal: Refusal::BadImage,
     }
-    if fresh > 0 {
-        let at = new_start.saturating_add(70);
-        push_bad(changes, at, word_at(image, at).saturating_sub(1))?;
-        push_bad(changes, 5, fresh.saturating_sub(1))?;
-    }
-    if copied < new_start {
-        push_bad(changes, copied.saturating_add(70), 1)?;
-        push_bad(changes, new_start.saturating_add(69), 2147483648)?;
-    }
-    Ok(())
 }
 
-// References of registers into the middle of an object and to the other half, and nils with a payload.
-fn push_register_changes(
-    changes: &mut Vec<Change>,
-    image: &[u32],
-    expected: &Expected,
-) -> Result<(), AllocError> {
-    let half = expected.sizes.half();
-    for k in 0..32u32 {
-        let at = k.saturating_mul(2).saturating_add(7);
-        let payload = word_at(image, at);
-        match expected.ledger.register(k / 8, k % 8) {
-            Item::Nil => push_bad(changes, at, 1)?,
-            Item::Number(_) => {}
-            Item::Object(object) => {
-                if expected.objects.shape(object).slots() > 0 {
-                    push_bad(changes, at, payload.saturating_add(1))?;
+impl<'a> Image<'a> {
+    // Changes that make every image another one or a bad one.
+    fn plain_changes(&self) -> [Change; 11] {
+        let sizes = self.expected.sizes;
+        let ledger = &self.expected.ledger;
+        let other_page = if sizes.page == 16 { 32 } else { 16 };
+        [
+            bad(0, 0),
+            other(0, other_page),
+            other(1, sizes.half_pages.saturating_add(1)),
+            other(2, self.expected.packing.other().number()),
+            other(2, 0),
+            bad(3, 2),
+            bad(4, self.expected.new_start().saturating_add(1)),
+            bad(4, ledger.copied.saturating_add(1)),
+            bad(5, u32::MAX),
+            bad(6, 3),
+            bad(68, 4294967295),
+        ]
+    }
+
+    // Headers made even, unused words that are not 0, and a new object cut.
+    fn push_word_changes(&self, changes: &mut Vec<Change>) -> Result<(), AllocError> {
+        let copied = self.expected.ledger.copied;
+        let fresh = self.expected.ledger.fresh;
+        let new_start = self.expected.new_start();
+        if copied > 0 {
+            changes.push(bad(70, self.word(70).saturating_sub(1)))?;
+        }
+        if fresh > 0 {
+            let header = self.word_at(new_start);
+            changes.push(bad(new_start.saturating_add(70), header.saturating_sub(1)))?;
+            changes.push(bad(5, fresh.saturating_sub(1)))?;
+        }
+        if copied < new_start {
+            changes.push(bad(copied.saturating_add(70), 1))?;
+            changes.push(bad(new_start.saturating_add(69), 2147483648))?;
+        }
+        Ok(())
+    }
+
+    // References of registers into the middle of an object and to the other half, and nils with a payload.
+    fn push_register_changes(&self, changes: &mut Vec<Change>) -> Result<(), AllocError> {
+        let half = self.expected.sizes.half();
+        for (k, item) in (0..32u32).zip(self.expected.ledger.registers.iter()) {
+            let at = k.saturating_mul(2).saturating_add(7);
+            let payload = self.word(at);
+            match *item {
+                Item::Nil => changes.push(bad(at, 1))?,
+                Item::Number(_) => {}
+                Item::Object(object) => {
+                    if self.expected.objects.shape(object).slots > 0 {
+                        changes.push(bad(at, payload.saturating_add(1)))?;
+                    }
+                    let moved = if self.expected.ledger.upper {
+                        payload.saturating_sub(half)
+                    } else {
+                        payload.saturating_add(half)
+                    };
+                    changes.push(bad(at, moved))?;
                 }
-                let other = if expected.ledger.upper {
-                    payload.saturating_sub(half)
-                } else {
-                    payload.saturating_add(half)
-                };
-                push_bad(changes, at, other)?;
             }
         }
+        Ok(())
     }
-    Ok(())
-}
 
-// A slot that refers to an object with slots, made to refer into its middle: of the object at a word of to-space.
-fn middle_change(image: &[u32], expected: &Expected, a: u32) -> Option<Change> {
-    let header = word_at(image, a.saturating_add(70));
-    let start = if expected.ledger.upper {
-        expected.sizes.half()
-    } else {
-        0
-    };
-    for slot in 0..slots_of(expected.packing, header).min(255) {
-        let at = a.saturating_add(slot).saturating_add(71);
-        let word = word_at(image, at);
-        if let Some(address) = reference_in(expected.packing, header, slot, word) {
-            let target = word_at(image, address.saturating_sub(start).saturating_add(70));
-            if slots_of(expected.packing, target) > 0 {
-                return Some(Change {
-                    at,
-                    word: next_reference(expected.packing, word),
-                    number: 7,
-                });
+    // A slot that refers to an object with slots, made to refer into its middle: of the object at a word of to-space.
+    fn middle_change(&self, a: u32) -> Option<Change> {
+        let packing = self.expected.packing;
+        let start = self.expected.first_word();
+        let header = self.word_at(a);
+        for slot in 0..packing.slots(header).min(255) {
+            let at = a.saturating_add(slot).saturating_add(71);
+            let word = self.word(at);
+            if let Some(address) = packing.reference(header, slot, word) {
+                let target = self.word_at(address.saturating_sub(start));
+                if packing.slots(target) > 0 {
+                    return Some(bad(at, packing.next_reference(word)));
+                }
             }
         }
+        None
     }
-    None
-}
 
-// The first slot between two words of to-space that can be made to refer into the middle of an object.
-fn push_middle(
-    changes: &mut Vec<Change>,
-    image: &[u32],
-    expected: &Expected,
-    from: u32,
-    stop: u32,
-) -> Result<(), AllocError> {
-    let mut a = from;
-    for _ in from..stop {
-        if a >= stop {
-            break;
+    // The first slot between two words of to-space that can be made to refer into the middle of an object.
+    fn first_middle(&self, from: u32, stop: u32) -> Option<Change> {
+        let mut a = from;
+        // As often as an object may begin in these words, for each has one or more.
+        for _ in from..stop {
+            if a >= stop {
+                break;
+            }
+            if let Some(change) = self.middle_change(a) {
+                return Some(change);
+            }
+            let slots = self.expected.packing.slots(self.word_at(a));
+            a = a.saturating_add(slots).saturating_add(1);
         }
-        if let Some(change) = middle_change(image, expected, a) {
-            changes.push(change)?;
-            break;
-        }
-        let header = word_at(image, a.saturating_add(70));
-        a = a
-            .saturating_add(slots_of(expected.packing, header))
-            .saturating_add(1);
+        None
     }
-    Ok(())
+
+    fn all_changes(&self, heap: Global) -> Result<Vec<Change>, AllocError> {
+        let half = self.expected.sizes.half();
+        let copied = self.expected.ledger.copied;
+        let mut changes = Vec::from_slice(heap, &self.plain_changes())?;
+        self.push_word_changes(&mut changes)?;
+        self.push_register_changes(&mut changes)?;
+        changes.extend(self.first_middle(0, copied))?;
+        changes.extend(self.first_middle(self.expected.new_start(), half))?;
+        Ok(changes)
+    }
 }
 
-fn all_changes(
-    heap: Global,
-    image: &[u32],
-    expected: &Expected,
-) -> Result<Vec<Change>, AllocError> {
-    let half = expected.sizes.half();
-    let new_start = half.saturating_sub(expected.ledger.fresh);
-    let mut changes = Vec::from_slice(heap, &plain_changes(expected))?;
-    push_word_changes(&mut changes, image, expected)?;
-    push_register_changes(&mut changes, image, expected)?;
-    push_middle(&mut changes, image, expected, 0, expected.ledger.copied)?;
-    push_middle(&mut changes, image, expected, new_start, half)?;
-    Ok(changes)
-}
-
-// Tries to restore an image: the number that it is refused with, 0 if it is not, and the host.
-fn refusal_of<H: Host, L: Layout + Drop>(host: H, layout: L, image: &[u32]) -> (H, u32) {
-    match Heap::restore(host, layout, image) {
+// Tries to restore an image: what it is refused with, if it is, and the host.
+fn refusal_of<H: Host, L: Layout + Drop>(
+    host: H,
+    layout: L,
+    words: &[u32],
+) -> (H, Option<Refusal>) {
+    match Heap::restore(host, layout, words) {
         Ok(heap) => {
             let (host, _) = heap.into_parts();
-            (host, 0)
+            (host, None)
         }
         Err(rejected) => {
             let Rejected { refusal, given } = rejected;
             let (host, _) = given;
-            (host, refusal.number())
+            (host, Some(refusal))
         }
     }
 }
 
-// An image that is one word short.
-fn short_difference<H: Host, L: Layout + Drop>(
-    host: H,
-    layout: L,
-    image: &[u32],
-    expected: &Expected,
-) -> (H, Option<Difference>) {
-    let words = expected.sizes.image().min(image.len());
-    let (host, short) = refusal_of(host, layout, &image[0..words.saturating_sub(1)]);
-    (host, differ("an image that is too short", 5, short))
+// What MAKE on a host is refused with, if it is.
+fn made_refusal<H: Host + Drop, L: Layout + Drop>(host: H, layout: L) -> Option<Refusal> {
+    match Heap::make(host, layout) {
+        Ok(heap) => {
+            let _ = heap.into_parts();
+            None
+        }
+        Err(rejected) => Some(rejected.refusal),
+    }
 }
 
 // MAKE, and RESTORE of an image, on a host with one page less, which is an odd number.
-fn odd_difference<L: Layout + Copy>(
-    heap: Global,
-    layout: L,
-    image: &[u32],
-    expected: &Expected,
-) -> anyhow::Result<Option<Difference>> {
-    let pages = expected
-        .sizes
-        .half_pages
-        .saturating_mul(2)
-        .saturating_sub(1);
-    let odd = <CheckHost as Fresh>::fresh(heap, pages, expected.sizes.page)?;
-    let (odd, restored) = refusal_of(odd, layout, image);
-    let made = match Heap::make(odd, layout) {
-        Ok(heap) => {
-            let _ = heap.into_parts();
-            0
-        }
-        Err(rejected) => rejected.refusal.number(),
-    };
-    Ok(differ("RESTORE on an odd page count", 1, restored).or(differ(
-        "MAKE on an odd page count",
-        1,
-        made,
-    )))
+fn check_odd<L: Layout + Copy>(heap: Global, layout: L, image: Image<'_>) -> Result<(), Stop> {
+    let sizes = image.expected.sizes;
+    let pages = sizes.pages().saturating_sub(1);
+    let odd = <CheckHost as Fresh>::fresh(heap, pages, sizes.page)?;
+    let (odd, restored) = refusal_of(odd, layout, image.words);
+    let made = made_refusal(odd, layout);
+    differ(
+        "RESTORE on an odd page count",
+        Some(Refusal::Size),
+        restored,
+    )?;
+    differ("MAKE on an odd page count", Some(Refusal::Size), made)?;
+    Ok(())
 }
 
-/// Restores images that are spoilt, each in one word: the numbers that they are refused with.
-pub fn spoil<H: Host + Fresh + Drop, L: Layout + Copy>(
+/// Restores images that are spoilt, each in one word: what they are refused with.
+pub fn check_spoilt<H: Host + Fresh + Drop, L: Layout + Copy>(
     heap: Global,
     layout: L,
-    image: &[u32],
-    expected: &Expected,
+    image: Image<'_>,
     tally: &mut Tally,
-) -> anyhow::Result<Option<Difference>> {
-    let pages = expected.sizes.half_pages.saturating_mul(2);
-    let fresh = H::fresh(heap, pages, expected.sizes.page)?;
-    let (mut host, short) = short_difference(fresh, layout, image, expected);
-    let odd = odd_difference(heap, layout, image, expected)?;
+) -> Result<(), Stop> {
+    let sizes = image.expected.sizes;
+    let fresh = H::fresh(heap, sizes.pages(), sizes.page)?;
+    let length = sizes.image().min(image.words.len()).saturating_sub(1);
+    let (mut host, short) = refusal_of(fresh, layout, &image.words[..length]);
+    let odd = check_odd(heap, layout, image);
     tally.spoilt = tally.spoilt.saturating_add(2);
-    if short.is_some() || odd.is_some() {
-        return Ok(short.or(odd));
-    }
-    let mut words = Vec::from_slice(heap, image)?;
-    for change in all_changes(heap, image, expected)?.iter() {
+    differ("an image that is too short", Some(Refusal::Short), short)?;
+    odd?;
+    let mut words = Vec::from_slice(heap, image.words)?;
+    for change in image.all_changes(heap)?.iter() {
         let at = change.at as usize;
-        let old = word_at(image, change.at);
         if let Some(word) = words.get_mut(at) {
             *word = change.word;
         }
-        let (back, number) = refusal_of(host, layout, words.as_slice());
+        let (back, refusal) = refusal_of(host, layout, words.as_slice());
         host = back;
         tally.spoilt = tally.spoilt.saturating_add(1);
-        if number != change.number {
-            return Ok(differ("a spoilt image", change.number, number));
-        }
+        differ("a spoilt image", Some(change.refusal), refusal)?;
         if let Some(word) = words.get_mut(at) {
-            *word = old;
+            *word = image.word(change.at);
         }
     }
-    Ok(None)
+    Ok(())
 }

@@ -1,14 +1,16 @@
-use super::calls::{Call, KINDS, NAMES, Reply, kind_of};
+use super::calls::{Answer, CALL_KINDS, Call, KINDS, Reply};
 use std::io;
 
 /// What happened in lists of calls.
-#[derive(Clone, Copy)]
+#[derive(Clone, Copy, Default)]
 pub struct Tally {
     pub lists: u32,
     /// The lists that went on after a restore.
     pub resumed: u32,
+    /// By the kind of the call.
     calls: [u32; KINDS],
     traps: [u32; 3],
+    /// By the number of the refusal.
     refusals: [u32; 20],
     pub collections: u32,
     pub copied: u32,
@@ -34,61 +36,41 @@ fn add_all(counts: &mut [u32], more: &[u32]) {
 }
 
 fn sum(counts: &[u32]) -> u32 {
-    let mut all = 0u32;
-    for count in counts.iter() {
-        all = all.saturating_add(*count);
-    }
-    all
+    counts
+        .iter()
+        .fold(0u32, |all, count| all.saturating_add(*count))
 }
 
 impl Tally {
-    pub fn new() -> Tally {
-        Tally {
-            lists: 0,
-            resumed: 0,
-            calls: [0; KINDS],
-            traps: [0; 3],
-            refusals: [0; 20],
-            collections: 0,
-            copied: 0,
-            images: 0,
-            restores: 0,
-            spoilt: 0,
-            compared: 0,
-            differences: 0,
-        }
-    }
-
     pub fn count_compared(&mut self, by: u32) {
         self.compared = self.compared.saturating_add(by);
     }
 
     /// Counts an answer that a heap gave.
-    pub fn count_reply(&mut self, call: Call, reply: Reply) {
-        let kind = kind_of(call);
+    pub fn count_answer(&mut self, call: Call, found: Answer) {
+        let kind = call.kind() as usize;
         self.count_compared(1);
-        match reply {
-            Reply::Refused(number) => bump(&mut self.refusals[..], number as usize),
-            Reply::Trapped(_) => bump(&mut self.traps[..], kind),
-            _ => bump(&mut self.calls[..], kind),
+        match found.reply {
+            Reply::Refused(refusal) => bump(&mut self.refusals, refusal.number() as usize),
+            Reply::Trapped(_) => bump(&mut self.traps, kind),
+            _ => bump(&mut self.calls, kind),
         }
-        match reply {
+        self.copied = self.copied.saturating_add(found.work.copied);
+        match found.reply {
             Reply::Copied(words) => self.copied = self.copied.saturating_add(words),
-            Reply::Scanned { copied, .. } => self.copied = self.copied.saturating_add(copied),
-            Reply::Stepped { ended, copied, .. } => {
-                self.copied = self.copied.saturating_add(copied);
-                self.collections = self.collections.saturating_add(u32::from(ended));
+            Reply::Stepped { ended: true } => {
+                self.collections = self.collections.saturating_add(1);
             }
-            Reply::Saved(sealed) => self.images = self.images.saturating_add(u32::from(sealed)),
+            Reply::Saved { sealed: true } => self.images = self.images.saturating_add(1),
             _ => {}
         }
     }
 
     /// Adds what happened in other lists.
     pub fn add(&mut self, more: &Tally) {
-        add_all(&mut self.calls[..], &more.calls[..]);
-        add_all(&mut self.traps[..], &more.traps[..]);
-        add_all(&mut self.refusals[..], &more.refusals[..]);
+        add_all(&mut self.calls, &more.calls);
+        add_all(&mut self.traps, &more.traps);
+        add_all(&mut self.refusals, &more.refusals);
         self.lists = self.lists.saturating_add(more.lists);
         self.resumed = self.resumed.saturating_add(more.resumed);
         self.collections = self.collections.saturating_add(more.collections);
@@ -102,8 +84,8 @@ impl Tally {
 
     fn print_calls(&self, rt: &impl Print) -> io::Result<()> {
         print!(rt; "  done:")?;
-        for (name, count) in NAMES.iter().zip(self.calls[..].iter()) {
-            print!(rt; " {name} {count}")?;
+        for (kind, count) in CALL_KINDS.iter().zip(self.calls.iter()) {
+            print!(rt; " {kind} {count}")?;
         }
         let [new, load, store] = self.traps;
         println!(rt; "")?;
@@ -112,7 +94,7 @@ impl Tally {
 
     fn print_refusals(&self, rt: &impl Print) -> io::Result<()> {
         print!(rt; "  refused:")?;
-        for (number, count) in self.refusals[..].iter().enumerate() {
+        for (number, count) in self.refusals.iter().enumerate() {
             if *count > 0 {
                 print!(rt; " {number}: {count}")?;
             }
@@ -121,26 +103,19 @@ impl Tally {
     }
 
     fn print_work(&self, rt: &impl Print) -> io::Result<()> {
-        let collections = self.collections;
-        let copied = self.copied;
-        let images = self.images;
-        let restores = self.restores;
-        let spoilt = self.spoilt;
         println!(rt;
-            "  collections {collections}, words copied {copied}, images sealed {images}, restores {restores}, spoilt images refused {spoilt}"
+            "  collections {}, words copied {}, images sealed {}, restores {}, spoilt images refused {}",
+            self.collections, self.copied, self.images, self.restores, self.spoilt
         )
     }
 
     fn print_sums(&self, rt: &impl Print) -> io::Result<()> {
-        let lists = self.lists;
-        let resumed = self.resumed;
-        let calls = sum(&self.calls[..])
-            .saturating_add(sum(&self.traps[..]))
-            .saturating_add(sum(&self.refusals[..]));
-        let compared = self.compared;
-        let differences = self.differences;
+        let calls = sum(&self.calls)
+            .saturating_add(sum(&self.traps))
+            .saturating_add(sum(&self.refusals));
         println!(rt;
-            "  lists {lists}, {resumed} of them on a restored heap; calls {calls}, comparisons {compared}, differences {differences}"
+            "  lists {}, {} of them on a restored heap; calls {calls}, comparisons {}, differences {}",
+            self.lists, self.resumed, self.compared, self.differences
         )
     }
 
