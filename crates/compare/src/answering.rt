@@ -1,7 +1,6 @@
-use super::calls::{Call, Reply};
+use super::calls::{Call, Reason, Refused, Reply};
 use super::expected::{Doing, Expected, Phase};
 use super::objects::{Item, reach_from};
-use memory::Refusal;
 use std::alloc::{AllocError, Global};
 
 /// What TELL says of an item.
@@ -17,13 +16,13 @@ impl From<Item> for Reply {
 
 impl Expected {
     // What a refused call leaves: a fault goes back if its buffer was too short.
-    fn refuse(&mut self, call: Call, refusal: Refusal) -> Reply {
+    fn refuse(&mut self, call: Call, reason: Reason) -> Reply {
         if let Call::Resolve { m, page, .. } = call {
-            if refusal == Refusal::Short && self.ledger.in_hand_with(m, page) {
+            if reason == Reason::Short && self.ledger.in_hand_with(m, page) {
                 self.ledger.set_doing(m, Doing::Waiting(page));
             }
         }
-        Reply::Refused(refusal)
+        Reply::Refused(Refused::from(reason))
     }
 
     // What a trapped call leaves.
@@ -135,8 +134,8 @@ impl Expected {
     /// What a call answers. Of the answer found, it is told only that the call trapped and on which page, that a STEP ended and
     /// that a SAVE sealed.
     pub fn answer(&mut self, heap: Global, call: Call, found: Reply) -> Result<Reply, AllocError> {
-        if let Err(refusal) = self.admit(call) {
-            return Ok(self.refuse(call, refusal));
+        if let Err(reason) = self.admit(call) {
+            return Ok(self.refuse(call, reason));
         }
         match (call.may_trap(), found) {
             (Some(m), Reply::Trapped(page)) => Ok(self.trap(m, page)),

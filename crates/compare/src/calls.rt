@@ -1,7 +1,7 @@
-use memory::Refusal;
 use std::fmt;
 
-// This model has types of its own for calls, answers, phases and layouts, so that it shares nothing with what it tests.
+// This model has types of its own for calls, refusals, answers, rights, phases and layouts, so that it shares nothing with what
+// it tests.
 
 /// A call of the heap, with its arguments: mutators m and f, registers d, s, v, a and b, slot i.
 #[derive(Clone, Copy, PartialEq, Eq)]
@@ -119,10 +119,69 @@ impl Call {
     }
 }
 
+/// Why a call is refused, by the number that it is then refused with.
+#[derive(Clone, Copy, PartialEq, Eq)]
+pub enum Reason {
+    /// Page size or page count that no host may have.
+    Size = 1,
+    /// A page or an address outside the host.
+    Outside = 2,
+    /// A mutator above 3 or a register above 7.
+    Name = 3,
+    /// More than 255 slots.
+    Shape = 4,
+    /// A memory or a buffer with too few words.
+    Short = 5,
+    /// An image of another size or layout.
+    OtherImage = 6,
+    /// Words that are no image.
+    BadImage = 7,
+    /// A list of frames that has not each number below the page count once.
+    Frames = 9,
+    /// The mutator is not running.
+    Waits = 11,
+    /// The register holds no reference.
+    NoReference = 12,
+    /// The object has no such slot.
+    Slot = 13,
+    /// The layout does not admit the value in the slot.
+    Misfit = 14,
+    /// No room for a new object.
+    NoSpace = 15,
+    /// A collection or an image is in progress.
+    Busy = 16,
+    /// A mutator is not running, and the call needs all of them to run.
+    FaultStands = 17,
+    /// No collection or image is in progress.
+    Nothing = 18,
+    /// No such fault stands.
+    NoFault = 19,
+}
+
+/// A refusal, expected or found. It is compared by its number alone, and one that was found may have any.
+#[derive(Clone, Copy, PartialEq, Eq)]
+pub struct Refused {
+    pub number: u32,
+}
+
+impl From<Reason> for Refused {
+    fn from(reason: Reason) -> Refused {
+        Refused {
+            number: reason as u32,
+        }
+    }
+}
+
+impl fmt::Display for Refused {
+    fn fmt<W: fmt::Write>(&self, f: &mut fmt::Formatter<W>) -> fmt::Result {
+        write!(f, "refused {}", self.number)
+    }
+}
+
 /// What a call answers, but for the work of a STEP or a RESOLVE.
 #[derive(Clone, Copy, PartialEq, Eq)]
 pub enum Reply {
-    Refused(Refusal),
+    Refused(Refused),
     Trapped(u32),
     Done,
     Same(bool),
@@ -140,7 +199,7 @@ pub enum Reply {
 impl fmt::Display for Reply {
     fn fmt<W: fmt::Write>(&self, f: &mut fmt::Formatter<W>) -> fmt::Result {
         match *self {
-            Reply::Refused(refusal) => write!(f, "{refusal}"),
+            Reply::Refused(refused) => write!(f, "{refused}"),
             Reply::Trapped(page) => write!(f, "trapped on page {page}"),
             Reply::Done => write!(f, "done"),
             Reply::Same(same) => write!(f, "same {same}"),

@@ -1,5 +1,5 @@
-use super::calls::{Answer, Reply};
-use memory::{Refusal, Right};
+use super::calls::{Answer, Refused, Reply};
+use super::rights::Right;
 use std::alloc::AllocError;
 use std::fmt;
 
@@ -10,7 +10,7 @@ pub enum Value {
     Number(u32),
     Right(Right),
     /// None where nothing is refused.
-    Refusal(Option<Refusal>),
+    Refusal(Option<Refused>),
 }
 
 impl From<Answer> for Value {
@@ -43,8 +43,8 @@ impl From<Right> for Value {
     }
 }
 
-impl From<Option<Refusal>> for Value {
-    fn from(refusal: Option<Refusal>) -> Value {
+impl From<Option<Refused>> for Value {
+    fn from(refusal: Option<Refused>) -> Value {
         Value::Refusal(refusal)
     }
 }
@@ -56,7 +56,7 @@ impl fmt::Display for Value {
             Value::Answer(answer) => write!(f, "{answer}"),
             Value::Number(number) => write!(f, "{number}"),
             Value::Right(right) => write!(f, "{}", right as u32),
-            Value::Refusal(Some(refusal)) => write!(f, "{}", refusal.number()),
+            Value::Refusal(Some(refused)) => write!(f, "{}", refused.number),
             Value::Refusal(None) => write!(f, "0"),
         }
     }
@@ -84,11 +84,11 @@ impl Difference {
     }
 
     /// A refusal of what is not to be refused.
-    pub fn refused(what: &'static str, refusal: Refusal) -> Difference {
+    pub fn refused<R: Into<Refused>>(what: &'static str, refusal: R) -> Difference {
         Difference {
             what,
             expected: Value::Refusal(None),
-            found: Value::Refusal(Some(refusal)),
+            found: Value::Refusal(Some(refusal.into())),
         }
     }
 }

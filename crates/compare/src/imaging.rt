@@ -109,7 +109,7 @@ fn check_second<H: Host, L: Layout>(
             "SAVE on a restored heap",
             refusal,
         ))?;
-        if seal == Seal::Sealed {
+        if matches!(seal, Seal::Sealed) {
             break;
         }
     }

@@ -1,4 +1,4 @@
-use super::calls::{Answer, Call, Reply, Work};
+use super::calls::{Answer, Call, Refused, Reply, Work};
 use super::lists::List;
 use collector::Progress;
 use heap::{Access, Fault, Heap};
@@ -6,6 +6,15 @@ use images::Seal;
 use layouts::Layout;
 use memory::{Host, Refusal};
 use model::Kind;
+
+/// Of the refusal that a heap gave, only the number is looked at.
+impl From<Refusal> for Refused {
+    fn from(refusal: Refusal) -> Refused {
+        Refused {
+            number: refusal.number(),
+        }
+    }
+}
 
 impl From<Access> for Reply {
     fn from(access: Access) -> Reply {
@@ -29,7 +38,7 @@ impl From<Kind> for Reply {
 impl From<Progress> for Reply {
     fn from(progress: Progress) -> Reply {
         Reply::Stepped {
-            ended: progress == Progress::Ended,
+            ended: matches!(progress, Progress::Ended),
         }
     }
 }
@@ -37,12 +46,12 @@ impl From<Progress> for Reply {
 impl From<Seal> for Reply {
     fn from(seal: Seal) -> Reply {
         Reply::Saved {
-            sealed: seal == Seal::Sealed,
+            sealed: matches!(seal, Seal::Sealed),
         }
     }
 }
 
-fn try_call<H: Host, L: Layout>(heap: &mut Heap<H, L>, call: Call) -> Result<Reply, Refusal> {
+fn try_call<H: Host, L: Layout>(heap: &mut Heap<H, L>, call: Call) -> Result<Reply, Refused> {
     Ok(match call {
         Call::New { m, d, r, w } => Reply::from(heap.new_object(m, d, r, w)?),
         Call::Load { m, d, s, i } => Reply::from(heap.load(m, d, s, i)?),
@@ -67,11 +76,11 @@ fn try_call<H: Host, L: Layout>(heap: &mut Heap<H, L>, call: Call) -> Result<Rep
 
 /// Makes a call of a mutator.
 pub fn call_mutator<H: Host, L: Layout>(heap: &mut Heap<H, L>, call: Call) -> Reply {
-    try_call(heap, call).unwrap_or_else(|refusal| Reply::Refused(refusal))
+    try_call(heap, call).unwrap_or_else(|refused| Reply::Refused(refused))
 }
 
 /// Makes a STEP.
-pub fn call_step<H: Host, L: Layout>(heap: &mut Heap<H, L>) -> Result<Answer, Refusal> {
+pub fn call_step<H: Host, L: Layout>(heap: &mut Heap<H, L>) -> Result<Answer, Refused> {
     let (progress, work) = heap.step()?;
     Ok(Answer {
         reply: Reply::from(progress),
@@ -99,7 +108,7 @@ impl<'a, H: Host, L: Layout> List<'a, H, L> {
         self.session.next_call(tokens)
     }
 
-    fn take(&mut self, m: u32) -> Result<Reply, Refusal> {
+    fn take(&mut self, m: u32) -> Result<Reply, Refused> {
         let fault = self.heap.take(m)?;
         let page = fault.page();
         let old = self.hands[(m % 4) as usize].replace(fault);
@@ -107,7 +116,7 @@ impl<'a, H: Host, L: Layout> List<'a, H, L> {
         Ok(Reply::Fault(page))
     }
 
-    fn resolve(&mut self, m: u32, lent: usize) -> Result<Answer, Refusal> {
+    fn resolve(&mut self, m: u32, lent: usize) -> Result<Answer, Refused> {
         let Some(fault) = self.hands[(m % 4) as usize].take() else {
             return Ok(Answer::from(Reply::Done));
         };
@@ -119,18 +128,18 @@ impl<'a, H: Host, L: Layout> List<'a, H, L> {
         })
     }
 
-    fn mark(&mut self, lent: usize) -> Result<Reply, Refusal> {
+    fn mark(&mut self, lent: usize) -> Result<Reply, Refused> {
         let session = &mut *self.session;
         self.heap.mark(session.lend(lent))?;
         Ok(Reply::Done)
     }
 
-    fn save(&mut self, lent: usize) -> Result<Reply, Refusal> {
+    fn save(&mut self, lent: usize) -> Result<Reply, Refused> {
         let session = &mut *self.session;
         Ok(Reply::from(self.heap.save(session.lend(lent))?))
     }
 
-    fn try_perform(&mut self, call: Call) -> Result<Answer, Refusal> {
+    fn try_perform(&mut self, call: Call) -> Result<Answer, Refused> {
         Ok(match call {
             Call::Flip => Answer::from(Reply::Copied(self.heap.flip()?)),
             Call::Step => call_step(&mut self.heap)?,
@@ -145,6 +154,6 @@ impl<'a, H: Host, L: Layout> List<'a, H, L> {
     /// Makes a call.
     pub fn perform(&mut self, call: Call) -> Answer {
         self.try_perform(call)
-            .unwrap_or_else(|refusal| Answer::from(Reply::Refused(refusal)))
+            .unwrap_or_else(|refused| Answer::from(Reply::Refused(refused)))
     }
 }

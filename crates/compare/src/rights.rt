@@ -1,9 +1,18 @@
 use super::differences::{Difference, Stop, differ};
 use super::expected::{Expected, Phase};
 use super::watching::Watch;
-use memory::{Host, Right};
+use memory::Host;
 use std::alloc::{AllocError, Global};
 
+/// What a page allows.
+#[derive(Clone, Copy, PartialEq, Eq)]
+pub enum Right {
+    None = 0,
+    Read = 1,
+    All = 2,
+}
+
+// The right of the page of an address, found by reading and writing there.
 fn right_of<H: Host>(host: &mut H, a: u32) -> Right {
     let Ok(word) = host.look(a) else {
         return Right::None;

@@ -41,7 +41,7 @@ impl Session {
             random,
             habit,
             expected: Expected::new(alloc, sizes, packing),
-            watch: Watch::new(alloc),
+            watch: Watch::new(),
             next: None,
             buffer: vec![in alloc; 2863311530u32; sizes.image().saturating_add(1)]?,
             snapshot: None,
@@ -75,7 +75,7 @@ impl Session {
         if let Some(snapshot) = self.snapshot.take() {
             self.expected = snapshot;
         }
-        self.watch = Watch::new(self.alloc);
+        self.watch = Watch::new();
         self.next = None;
         self.tally.resumed = self.tally.resumed.saturating_add(1);
     }
@@ -114,7 +114,7 @@ impl Session {
     }
 
     // What is checked of a call after the expected heap is told of it.
-    fn check_after(&mut self, call: Call, found: Answer) -> Result<(), Stop> {
+    fn check_after(&mut self, call: Call, found: Answer) -> Result<(), Difference> {
         match found.reply {
             Reply::Refused(_) => {
                 self.watch.note_refused();
@@ -148,6 +148,7 @@ impl Session {
         self.settle_next(call, found.reply);
         self.note_image(call, found.reply)?;
         before?;
-        after
+        after?;
+        Ok(())
     }
 }

@@ -1,3 +1,4 @@
+use super::calls::{Reason, Refused};
 use super::differences::{Difference, Stop, differ};
 use super::hosts::Fresh;
 use super::imaging::Image;
@@ -6,7 +7,7 @@ use super::tallying::Tally;
 use check_host::CheckHost;
 use heap::Heap;
 use layouts::Layout;
-use memory::{Host, Refusal, Rejected};
+use memory::{Host, Rejected};
 use std::alloc::{AllocError, Global};
 
 // A word to be written over one of an image, and what the image must then be refused with.
@@ -14,7 +15,7 @@ use std::alloc::{AllocError, Global};
 struct Change {
     at: u32,
     word: u32,
-    refusal: Refusal,
+    refused: Refused,
 }
 
 // A change that makes an image one of another size or layout.
@@ -22,7 +23,7 @@ fn other(at: u32, word: u32) -> Change {
     Change {
         at,
         word,
-        refusal: Refusal::OtherImage,
+        refused: Refused::from(Reason::OtherImage),
     }
 }
 
@@ -31,7 +32,7 @@ fn bad(at: u32, word: u32) -> Change {
     Change {
         at,
         word,
-        refusal: Refusal::BadImage,
+        refused: Refused::from(Reason::BadImage),
     }
 }
 
@@ -153,7 +154,7 @@ fn refusal_of<H: Host, L: Layout + Drop>(
     host: H,
     layout: L,
     words: &[u32],
-) -> (H, Option<Refusal>) {
+) -> (H, Option<Refused>) {
     match Heap::restore(host, layout, words) {
         Ok(heap) => {
             let (host, _) = heap.into_parts();
@@ -162,19 +163,19 @@ fn refusal_of<H: Host, L: Layout + Drop>(
         Err(rejected) => {
             let Rejected { refusal, given } = rejected;
             let (host, _) = given;
-            (host, Some(refusal))
+            (host, Some(Refused::from(refusal)))
         }
     }
 }
 
 // What MAKE on a host is refused with, if it is.
-fn made_refusal<H: Host + Drop, L: Layout + Drop>(host: H, layout: L) -> Option<Refusal> {
+fn made_refusal<H: Host + Drop, L: Layout + Drop>(host: H, layout: L) -> Option<Refused> {
     match Heap::make(host, layout) {
         Ok(heap) => {
             let _ = heap.into_parts();
             None
         }
-        Err(rejected) => Some(rejected.refusal),
+        Err(rejected) => Some(Refused::from(rejected.refusal)),
     }
 }
 
@@ -185,12 +186,9 @@ fn check_odd<L: Layout + Copy>(heap: Global, layout: L, image: Image<'_>) -> Res
     let odd = <CheckHost as Fresh>::fresh(heap, pages, sizes.page)?;
     let (odd, restored) = refusal_of(odd, layout, image.words);
     let made = made_refusal(odd, layout);
-    differ(
-        "RESTORE on an odd page count",
-        Some(Refusal::Size),
-        restored,
-    )?;
-    differ("MAKE on an odd page count", Some(Refusal::Size), made)?;
+    let size = Some(Refused::from(Reason::Size));
+    differ("RESTORE on an odd page count", size, restored)?;
+    differ("MAKE on an odd page count", size, made)?;
     Ok(())
 }
 
@@ -207,7 +205,8 @@ pub fn check_spoilt<H: Host + Fresh + Drop, L: Layout + Copy>(
     let (mut host, short) = refusal_of(fresh, layout, &image.words[..length]);
     let odd = check_odd(heap, layout, image);
     tally.spoilt = tally.spoilt.saturating_add(2);
-    differ("an image that is too short", Some(Refusal::Short), short)?;
+    let too_short = Some(Refused::from(Reason::Short));
+    differ("an image that is too short", too_short, short)?;
     odd?;
     let mut words = Vec::from_slice(heap, image.words)?;
     for change in image.all_changes(heap)?.iter() {
@@ -218,7 +217,7 @@ pub fn check_spoilt<H: Host + Fresh + Drop, L: Layout + Copy>(
         let (back, refusal) = refusal_of(host, layout, words.as_slice());
         host = back;
         tally.spoilt = tally.spoilt.saturating_add(1);
-        differ("a spoilt image", Some(change.refusal), refusal)?;
+        differ("a spoilt image", Some(change.refused), refusal)?;
         if let Some(word) = words.get_mut(at) {
             *word = image.word(change.at);
         }

@@ -51,7 +51,7 @@ impl Tally {
         let kind = call.kind() as usize;
         self.count_compared(1);
         match found.reply {
-            Reply::Refused(refusal) => bump(&mut self.refusals, refusal.number() as usize),
+            Reply::Refused(refused) => bump(&mut self.refusals, refused.number as usize),
             Reply::Trapped(_) => bump(&mut self.traps, kind),
             _ => bump(&mut self.calls, kind),
         }

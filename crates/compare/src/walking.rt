@@ -1,4 +1,4 @@
-use super::calls::{Call, Reply};
+use super::calls::{Call, Reason, Refused, Reply};
 use super::differences::{Difference, Stop, differ};
 use super::expected::{Expected, place};
 use super::objects::{Item, Reached, Route, reach_from};
@@ -7,7 +7,7 @@ use super::random::Random;
 use super::tallying::Tally;
 use heap::Heap;
 use layouts::Layout;
-use memory::{Host, Refusal};
+use memory::Host;
 use std::alloc::{AllocError, Global};
 
 // Makes a call, and compares its answer with the expected one.
@@ -164,7 +164,7 @@ impl Walk {
             self.check_slot(heap, tally, i, *item)?;
         }
         let behind = self.walker.load(slots);
-        let refused = Reply::Refused(Refusal::Slot);
+        let refused = Reply::Refused(Refused::from(Reason::Slot));
         Ok(expect(heap, tally, "a slot too many", behind, refused)?)
     }
 }

@@ -1,7 +1,6 @@
 use super::calls::{Answer, Call, Reply, Work};
-use super::differences::{Difference, Stop, differ, exceed};
+use super::differences::{Difference, differ, exceed};
 use super::expected::Expected;
-use std::alloc::{AllocError, Global};
 
 /// A mutator's call that trapped last, and how often in a row its NEW trapped.
 #[derive(Clone, Copy)]
@@ -12,14 +11,14 @@ struct Trial {
 
 /// What is checked of a heap beside its answers: where it traps, what its counts add up to, and when it ends a collection
 /// or seals an image.
-#[derive(Drop)]
+#[derive(Clone, Copy)]
 pub struct Watch {
     /// The words copied and scanned since FLIP, and the STEPs.
     done: Work,
     steps: u32,
     /// The SAVEs since MARK, and of each page of to-space whether it is still to be saved.
     saves: u32,
-    unsaved: Vec<bool>,
+    unsaved: [bool; 64],
     /// The mutator whose fault the last call resolved, and the calls that had trapped.
     repeated: Option<u32>,
     trials: [Trial; 4],
@@ -28,12 +27,12 @@ pub struct Watch {
 }
 
 impl Watch {
-    pub fn new(heap: Global) -> Watch {
+    pub fn new() -> Watch {
         Watch {
             done: Work::default(),
             steps: 0,
             saves: 0,
-            unsaved: Vec::new(heap),
+            unsaved: [false; 64],
             repeated: None,
             trials: [Trial {
                 call: None,
@@ -208,21 +207,19 @@ impl Watch {
         differ("words scanned with no collection", 0, words)
     }
 
-    fn note_mark(&mut self, expected: &Expected) -> Result<(), AllocError> {
+    fn note_mark(&mut self, expected: &Expected) {
         let size = expected.sizes.page;
         let new_start = expected.new_start();
         self.saves = 0;
         for trial in self.trials.iter_mut() {
             trial.tries = 0;
         }
-        self.unsaved.clear();
-        for page in 0..expected.sizes.half_pages {
+        self.unsaved = [false; 64];
+        for (page, unsaved) in (0..expected.sizes.half_pages).zip(self.unsaved.iter_mut()) {
             let start = page.saturating_mul(size);
             let stop = start.saturating_add(size);
-            self.unsaved
-                .push(start < expected.ledger.copied || stop > new_start)?;
+            *unsaved = start < expected.ledger.copied || stop > new_start;
         }
-        Ok(())
     }
 
     fn note_save(&mut self, expected: &Expected, sealed: bool) -> Result<(), Difference> {
@@ -243,7 +240,12 @@ impl Watch {
     }
 
     /// Notes a call that was neither refused nor trapped; `expected` is the heap after it.
-    pub fn note(&mut self, expected: &Expected, call: Call, found: Answer) -> Result<(), Stop> {
+    pub fn note(
+        &mut self,
+        expected: &Expected,
+        call: Call,
+        found: Answer,
+    ) -> Result<(), Difference> {
         self.repeated = None;
         let work = found.work;
         match (call, found.reply) {
@@ -252,7 +254,7 @@ impl Watch {
             (Call::Resolve { m, page, .. }, Reply::Resolved) => {
                 self.note_resolve(expected, m, page, work)?
             }
-            (Call::Mark { .. }, _) => self.note_mark(expected)?,
+            (Call::Mark { .. }, _) => self.note_mark(expected),
             (_, Reply::Saved { sealed }) => self.note_save(expected, sealed)?,
             _ => {}
         }

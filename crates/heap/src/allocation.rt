@@ -108,7 +108,7 @@ impl<H: Host, L: Layout> Heap<H, L> {
         let m = MutatorName::try_from(m)?;
         let d = RegisterName::try_from(d)?;
         let header = new_header(&self.layout, r, w)?;
-        if !self.plain.is_running(m) {
+        if !self.plain.runs(m) {
             return Err(Refusal::Waits);
         }
         let words = r + w + 1;

@@ -23,10 +23,10 @@ impl<H: Host, L: Layout> Heap<H, L> {
         let d = RegisterName::try_from(d)?;
         let f = MutatorName::try_from(f)?;
         let s = RegisterName::try_from(s)?;
-        if !self.plain.is_running(m) {
+        if !self.plain.runs(m) {
             return Err(Refusal::Waits);
         }
-        let held = self.plain.register(f, s);
+        let held = self.plain.held(f, s);
         self.hold(m, d, held);
         Ok(())
     }
@@ -38,7 +38,7 @@ impl<H: Host, L: Layout> Heap<H, L> {
     {
         let m = MutatorName::try_from(m)?;
         let d = RegisterName::try_from(d)?;
-        if !self.plain.is_running(m) {
+        if !self.plain.runs(m) {
             return Err(Refusal::Waits);
         }
         self.hold(m, d, Held::Number(number));
@@ -52,7 +52,7 @@ impl<H: Host, L: Layout> Heap<H, L> {
     {
         let m = MutatorName::try_from(m)?;
         let d = RegisterName::try_from(d)?;
-        if !self.plain.is_running(m) {
+        if !self.plain.runs(m) {
             return Err(Refusal::Waits);
         }
         self.hold(m, d, Held::Nil);
@@ -66,10 +66,10 @@ impl<H: Host, L: Layout> Heap<H, L> {
         let m = MutatorName::try_from(m)?;
         let a = RegisterName::try_from(a)?;
         let b = RegisterName::try_from(b)?;
-        if !self.plain.is_running(m) {
+        if !self.plain.runs(m) {
             return Err(Refusal::Waits);
         }
-        Ok(self.plain.register(m, a) == self.plain.register(m, b))
+        Ok(self.plain.held(m, a) == self.plain.held(m, b))
     }
 
     /// TELL: nil, reference, or the number that a register holds.
@@ -78,10 +78,10 @@ impl<H: Host, L: Layout> Heap<H, L> {
     {
         let m = MutatorName::try_from(m)?;
         let s = RegisterName::try_from(s)?;
-        if !self.plain.is_running(m) {
+        if !self.plain.runs(m) {
             return Err(Refusal::Waits);
         }
-        Ok(Kind::from(self.plain.register(m, s)))
+        Ok(Kind::from(self.plain.held(m, s)))
     }
 
     /// COUNT: how often a call trapped since the heap was made; it stays at 4294967295.

@@ -20,7 +20,7 @@ impl<H: Host, L: Layout> Heap<H, L> {
         ensures after { view H.Host.meaning self.new ≡ with_register (view H.Host.meaning self.old) m r (held_value held) }
         ensures layout { self.new.layout ≡ self.old.layout }
     {
-        self.plain.set_register(m, r, held);
+        self.plain.hold(m, r, held);
     }
 
     /// Moves a mutator to a state.
@@ -28,7 +28,7 @@ impl<H: Host, L: Layout> Heap<H, L> {
         ensures after { view H.Host.meaning self.new ≡ with_state (view H.Host.meaning self.old) m state }
         ensures layout { self.new.layout ≡ self.old.layout }
     {
-        self.plain.set_state(m, state);
+        self.plain.move_to(m, state);
     }
 
     /// Moves a mutator as an event has it: the state it then has, if the event fits its state.

@@ -26,10 +26,10 @@ impl<H: Host, L: Layout> Heap<H, L> {
         ensures plain { self.new.plain ≡ self.old.plain }
         ensures layout { self.new.layout ≡ self.old.layout }
     {
-        if !self.plain.is_running(m) {
+        if !self.plain.runs(m) {
             return Err(Refusal::Waits);
         }
-        let address = self.plain.reference(m, s).ok_or(Refusal::NoReference)?;
+        let address = self.plain.object(m, s).ok_or(Refusal::NoReference)?;
         let header = word(&mut self.host, address.0);
         if i >= slot_count(&self.layout, header) {
             return Err(Refusal::Slot);
@@ -65,7 +65,7 @@ impl<H: Host, L: Layout> Heap<H, L> {
         let s = RegisterName::try_from(s)?;
         let v = RegisterName::try_from(v)?;
         let object = self.object_with_slot(m, s, i)?;
-        let value = Value::from(self.plain.register(m, v));
+        let value = Value::from(self.plain.held(m, v));
         if !self.layout.admits(object.header, i, value) {
             return Err(Refusal::Misfit);
         }

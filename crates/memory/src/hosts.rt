@@ -62,9 +62,12 @@ pub trait Host {
     fn page_of(&self, a: u32) -> Result<u32, Refusal>
         ensures { result ≡ page_found (meaning self.now) a }
     {
-        a.checked_div(self.page_size())
-            .filter(|page| *page < self.page_count())
-            .ok_or(Refusal::Outside)
+        // The test before the division, so that a caller who only asks whether an address is inside pays for no division.
+        if a < self.page_count() * self.page_size() {
+            Ok(a / self.page_size())
+        } else {
+            Err(Refusal::Outside)
+        }
     }
 
     /// Refuses the number of a page outside.

@@ -22,7 +22,7 @@ one_mutator (Same m l r) = refl
 one_mutator (Tell m s) = refl
 one_mutator Count = refl
 
-only_mutators : (cs : List MutatorCall) → OnlyMutatorCalls (as_calls cs)
+pub only_mutators : (cs : List MutatorCall) → OnlyMutatorCalls (as_calls cs)
 only_mutators [] = tt
 only_mutators (c ∷ cs) = (one_mutator c, only_mutators cs)
 

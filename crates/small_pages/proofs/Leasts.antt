@@ -1,8 +1,8 @@
 -- The least right of the small pages of a page as one of them changes.
-use Rattle.std.proofs.Common.{◌≡◌, ℕ, zero, suc, ◌+◌, ◌-◌, ◌*◌, ◌/◌, ◌<◌, ◌≤◌, Bool, true, false, cond, ◌||◌, eqb, ltb, List, length, get_or, set, take, drop, replicate, sym, refl, ap, ◌∙◌, ap₂, ⊎_elim, add-one, arith}
+use Rattle.std.proofs.Common.{◌≡◌, ℕ, zero, suc, ◌+◌, ◌-◌, ◌*◌, ◌/◌, ◌<◌, ◌≤◌, Bool, true, false, cond, ◌||◌, eqb, ltb, List, length, get_or, take, drop, replicate, sym, refl, ap, ◌∙◌, ap₂, ⊎_elim, add-one, arith}
 use Rattle.std.specs.Prelude.{fold, slice_range}
 use Rattle.std.proofs.lemmas.Grind.{common_steps}
-use Rattle.std.proofs.lemmas.List.{get_or-drop, length-set}
+use Rattle.std.proofs.lemmas.List.{get_or-drop}
 use Rattle.std.proofs.lemmas.List.Sums.{fold_more}
 use Rattle.std.proofs.lemmas.Nat.{mul-le, div-mul-add, mod_below, div_below, div-add-mod', mul-add-lt}
 use Rattle.std.proofs.lemmas.Bool.{cond-true, cond-false, lt-ltb, eq-eqb, ne_eqb, cases_lt, cases_eq, and_parts}
@@ -11,10 +11,11 @@ use Rattle.memory.specs.Memory.{Memory, legal_sizes, inside, with_word, with_rig
 use Rattle.memory.specs.Rights.{lesser, greater, rank}
 use Rattle.memory.specs.declared.rights.Right.{Right}
 use Rattle.memory.specs.declared.rights.Right.TheVariants.{None, All}
-use Rattle.memory.proofs.Ranks.{rank_lesser, rank_greater, rank_same}
-use Rattle.small_pages.specs.Splits.{number, fits, legal_split, all_open, opened, split, small_memory, layer_of, lowest, LeastIn}
+use Rattle.memory.proofs.Ranks.{rank_lesser, rank_greater, rank_same, rank_top}
+use Rattle.memory.proofs.Memories.{same_memory}
+use Rattle.small_pages.specs.Splits.{number, fits, legal_split, divisor, all_open, opened, split, small_memory, lowest, LeastIn}
 use Rattle.small_pages.specs.declared.parts.Parts.{Parts}
-use Rattle.small_pages.specs.Sizes.{some_parts, few_small, marked, small_split, layer_after_set}
+use Rattle.small_pages.specs.Sizes.{some_pages, few_small, small_split, layer_of, layer_after_set}
 
 -- Order
 
@@ -33,7 +34,13 @@ greater_self x = rank_same _ _ (omega (arith, rank_greater x x))
 greater_up : (x r : Right) → greater x (greater x r) ≡ greater x r
 greater_up x r = rank_same _ _ (omega (arith, rank_greater x (greater x r), rank_greater x r))
 
+greater_all : (x : Right) → greater x All ≡ All
+greater_all x = rank_same _ _ (omega (arith, rank_greater x All, rank_top x))
+
 -- The lowest of a row
+
+pub lowest_more : (f : ℕ → Right) (first n : ℕ) → lowest f first (n + 1) ≡ lesser (lowest f first n) (f (first + n))
+lowest_more f first n = rw add-one refl
 
 lowest_same : (f g : ℕ → Right) (first n : ℕ) → ((i : ℕ) → i < n → f (first + i) ≡ g (first + i)) → lowest f first n ≡ lowest g first n
 lowest_same f g first zero h = refl
@@ -117,6 +124,19 @@ pub split_least : (m : Memory) (k : ℕ) → LeastIn (opened m) (split m k) k
 split_least m k p h =
     cond-true _ All _ (lt-ltb p m.page_count h) ∙ sym (lowest_all (all_open (m.page_count * k)) (p * k) k (λ i l. cond-true _ All _ (lt-ltb (p * k + i) (m.page_count * k) (let w = mul-add-lt p k i m.page_count h l in omega arith))))
 
+-- the turn of a loop that raises each page to all
+pub open_turn : (m n o : Memory) (p : ℕ) → p < m.page_count → n ≡ opened_to m p → o ≡ after_unprot n p All → o ≡ opened_to m (p + 1)
+open_turn m n o p h inv did =
+    let run : Memory = opened_to m p in
+    let e : after_unprot run p All ≡ with_right run p (greater (run.right p) All) = cond-true _ _ run (lt-ltb p m.page_count h) in
+    did ∙ ap (λ x. after_unprot x p All) inv ∙ e ∙ ap (with_right run p) (greater_all (run.right p)) ∙ same_memory _ _ refl refl (λ a. refl) (λ q. grind (arith, nat_tests))
+
+pub open_none : (m : Memory) → m ≡ opened_to m 0
+open_none m = same_memory _ _ refl refl (λ a. refl) (λ q. grind (arith, nat_tests))
+
+pub open_whole : (m : Memory) → ((p : ℕ) → m.page_count ≤ p → m.right p ≡ None) → opened_to m m.page_count ≡ opened m
+open_whole m shut = same_memory _ _ refl refl (λ a. refl) (λ q. grind (arith, nat_tests, shut q))
+
 -- The least right that the code finds
 
 -- the least of a part of a list is the lowest of that row
@@ -128,10 +148,10 @@ fold_lowest xs first (suc n) h =
     rw (← add-one) (fold_more lesser All (drop first xs) n None long ∙ ap₂ lesser before (get_or-drop first xs n None))
 
 -- the least right of the small pages of page q, by the listed rights
-listed_lowest : (m : Memory) (parts : Parts) (rights : List Right) (q : ℕ) → fits m (number parts) ≡ true → length rights ≡ 64 → q < m.page_count → fold lesser All (slice_range rights (q * number parts) (q * number parts + number parts)) ≡ lowest (layer_of m parts rights).right (q * number parts) (number parts)
-listed_lowest m parts rights q fit long l =
-    let k : ℕ = number parts in
-    let few : m.page_count * k ≤ 64 = few_small m parts fit in
+pub listed_lowest : (m : Memory) (parts : Parts) (rights : List Right) (q : ℕ) → legal_sizes m.page_count m.page_size ≡ true → length rights ≡ 64 → q < m.page_count → fold lesser All (slice_range rights (q * divisor m parts) (q * divisor m parts + divisor m parts)) ≡ lowest (layer_of m parts rights).right (q * divisor m parts) (divisor m parts)
+listed_lowest m parts rights q legal long l =
+    let k : ℕ = divisor m parts in
+    let few : m.page_count * k ≤ 64 = few_small m parts legal in
     let row : (i : ℕ) → i < k → q * k + i < m.page_count * k = λ i h. let w = mul-add-lt q k i m.page_count l h in omega arith in
     let wide : q * k + k - q * k ≡ k = omega arith in
     rw wide (fold_lowest rights (q * k) k (let w : q * k + k ≤ m.page_count * k = grind (arith, mul-le) in omega arith))
@@ -139,56 +159,60 @@ listed_lowest m parts rights q fit long l =
 
 -- A layer by its state
 
--- the layer over a host that means m, with these parts and rights, has the least rights below and means n
-pub record Settled (m : Memory) (parts : Parts) (rights : List Right) (n : Memory) : Type 0 where
-  pub least : LeastIn m (layer_of m parts rights) (number parts)
-  pub after : layer_of m parts rights ≡ n
+-- The layer whose state is m, ways and rights means n. The sizes are those that a host old and d small pages in a page
+-- had.
+pub record Settled (old : Memory) (d : ℕ) (m : Memory) (ways : Parts) (rights : List Right) (n : Memory) (Was : Type 0) : Type 0 where
+  pub after : layer_of m ways rights ≡ n
+  pub size : m.page_size ≡ old.page_size
+  pub count : m.page_count ≡ old.page_count
+  pub parts : divisor m ways ≡ d
+  pub least : Was → LeastIn m (layer_of m ways rights) (divisor m ways)
 
--- a layer just made of a host
-pub made_layer : (m n : Memory) (parts : Parts) (k : ℕ) → number parts ≡ k → legal_split m k ≡ true → n ≡ opened m → Settled n parts (replicate 64 All) (split m k)
+-- a word written below alters neither sizes nor rights
+words_settled : (b : Bool) (m : Memory) (parts : Parts) (rights : List Right) (a w : ℕ) → Settled m (divisor m parts) (cond b (with_word m a w) m) parts rights (layer_of (cond b (with_word m a w) m) parts rights) (LeastIn m (layer_of m parts rights) (divisor m parts))
+words_settled true m parts rights a w = record { after = refl; size = refl; count = refl; parts = refl; least = λ old. old }
+words_settled false m parts rights a w = record { after = refl; size = refl; count = refl; parts = refl; least = λ old. old }
+
+-- a host below that stays
+pub still_settled : (m n : Memory) (parts : Parts) (rights : List Right) → n ≡ m → Settled m (divisor m parts) n parts rights (layer_of m parts rights) (LeastIn m (layer_of m parts rights) (divisor m parts))
+still_settled m n parts rights e = rw e (record { after = refl; size = refl; count = refl; parts = refl; least = λ old. old })
+
+-- a word written by the second view
+pub set_settled : (m n : Memory) (parts : Parts) (rights : List Right) (a w : ℕ) → legal_sizes m.page_count m.page_size ≡ true → n ≡ after_set m a w → Settled m (divisor m parts) n parts rights (after_set (layer_of m parts rights) a w) (LeastIn m (layer_of m parts rights) (divisor m parts))
+set_settled m n parts rights a w legal did =
+    let done = words_settled (inside m a) m parts rights a w in
+    rw did (record { after = layer_after_set m parts rights a w legal; size = done.size; count = done.count; parts = done.parts; least = done.least })
+
+-- the right of a page below says nothing of the layer's memory
+settled : (b : Bool) (m : Memory) (parts : Parts) (rights : List Right) (n : Memory) (Was : Type 0) (q : ℕ) (y : Right) → layer_of m parts rights ≡ n → (Was → LeastIn (cond b (with_right m q y) m) n (divisor m parts)) → Settled m (divisor m parts) (cond b (with_right m q y) m) parts rights n Was
+settled true m parts rights n Was q y is least = record { after = is; size = refl; count = refl; parts = refl; least = λ was. rw is (least was) }
+settled false m parts rights n Was q y is least = record { after = is; size = refl; count = refl; parts = refl; least = λ was. rw is (least was) }
+
+module _ (m : Memory) (parts : Parts) (rights : List Right) (p : ℕ) (r : Right) (within : p < m.page_count * divisor m parts) where
+  abbrev Before : Type 0
+  Before = LeastIn m (layer_of m parts rights) (divisor m parts)
+
+  lowered_layer : (new : List Right) → layer_of m parts new ≡ with_right (layer_of m parts rights) p (lesser ((layer_of m parts rights).right p) r) → Settled m (divisor m parts) (after_prot1 m (p / divisor m parts) r) parts new (with_right (layer_of m parts rights) p (lesser ((layer_of m parts rights).right p) r)) Before
+  lowered_layer new is = settled _ m parts new _ Before (p / divisor m parts) _ is (lowered_least m (layer_of m parts rights) (divisor m parts) p r (some_pages m parts) within)
+
+  raised_layer : (new : List Right) → layer_of m parts new ≡ with_right (layer_of m parts rights) p (greater ((layer_of m parts rights).right p) r) → Settled m (divisor m parts) (after_unprot m (p / divisor m parts) (lowest (layer_of m parts new).right (p / divisor m parts * divisor m parts) (divisor m parts))) parts new (with_right (layer_of m parts rights) p (greater ((layer_of m parts rights).right p) r)) Before
+  raised_layer new is =
+      let k : ℕ = divisor m parts in
+      rw (ap (λ (x : Memory). lowest x.right (p / k * k) k) is) (settled _ m parts new _ Before (p / k) _ is (raised_least m (layer_of m parts rights) k p r (some_pages m parts) within))
+
+  -- first small page p changes to x, which leaves m₁, parts₁ and rights₁, and then the page below
+  module _ (m₁ m₂ : Memory) (parts₁ parts₂ : Parts) (rights₁ rights₂ : List Right) (x : Right) (same_below : m₁ ≡ m) (same_parts : parts₁ ≡ parts) (marked : layer_of m₁ parts₁ rights₁ ≡ with_right (layer_of m parts rights) p x) (kept_parts : parts₂ ≡ parts₁) (kept_rights : rights₂ ≡ rights₁) where
+    pub lowered_state : x ≡ lesser ((layer_of m parts rights).right p) r → m₂ ≡ after_prot1 m₁ (p / divisor m₁ parts₁) r → Settled m (divisor m parts) m₂ parts₂ rights₂ (with_right (layer_of m parts rights) p (lesser ((layer_of m parts rights).right p) r)) Before
+    lowered_state is did = rw (kept_rights, kept_parts, did, same_below, same_parts) (lowered_layer rights₁ (rw (same_below, same_parts, is) at marked))
+
+    pub raised_state : x ≡ greater ((layer_of m parts rights).right p) r → m₂ ≡ after_unprot m₁ (p / divisor m₁ parts₁) (lowest (layer_of m₁ parts₁ rights₁).right (p / divisor m₁ parts₁ * divisor m₁ parts₁) (divisor m₁ parts₁)) → Settled m (divisor m parts) m₂ parts₂ rights₂ (with_right (layer_of m parts rights) p (greater ((layer_of m parts rights).right p) r)) Before
+    raised_state is did = rw (kept_rights, kept_parts, did, same_below, same_parts) (raised_layer rights₁ (rw (same_below, same_parts, is) at marked))
+
+-- a layer that is just made
+pub made_layer : (m n : Memory) (parts : Parts) (k : ℕ) → number parts ≡ k → legal_split m k ≡ true → n ≡ opened m → Settled m k n parts (replicate 64 All) (split m k) (Unit {0})
 made_layer m n parts k is legal did =
     let fit : fits m k ≡ true = (and_parts (eqb k 2 || eqb k 4 || eqb k 8) (fits m k) legal).1 in
     let few : m.page_count * k ≤ 64 = grind (arith, nat_tests) in
-    let layer : layer_of (opened m) parts (replicate 64 All) ≡ split m k = ap (λ d. small_memory (opened m) d (replicate 64 All)) is ∙ small_split (opened m) k few in
-    rw did (record { least = rw (layer, is) (split_least m k); after = layer })
-
--- a layer that has the least rights below, over a host that means m
-module _ (m : Memory) (parts : Parts) (rights : List Right) (least : LeastIn m (layer_of m parts rights) (number parts)) where
-  -- a word written below alters neither sizes nor rights
-  words_settled : (b : Bool) (a w : ℕ) → Settled (cond b (with_word m a w) m) parts rights (layer_of (cond b (with_word m a w) m) parts rights)
-  words_settled true a w = record { least = least; after = refl }
-  words_settled false a w = record { least = least; after = refl }
-
-  -- a word written by the second view
-  pub set_settled : (n : Memory) (a w : ℕ) → legal_sizes m.page_count m.page_size ≡ true → n ≡ after_set m a w → Settled n parts rights (after_set (layer_of m parts rights) a w)
-  set_settled n a w legal did = rw did (record { least = (words_settled (inside m a) a w).least; after = layer_after_set m parts rights a w legal })
-
-  -- the right of a page below says nothing of the layer's memory
-  settled : (b : Bool) (new : List Right) (n : Memory) (q : ℕ) (y : Right) → layer_of m parts new ≡ n → LeastIn (cond b (with_right m q y) m) n (number parts) → Settled (cond b (with_right m q y) m) parts new n
-  settled true new n q y is low = record { least = rw is low; after = is }
-  settled false new n q y is low = record { least = rw is low; after = is }
-
-  -- small page p, and the page below
-  module _ (sized : fits m (number parts) ≡ true) (p : ℕ) (r x : Right) (long : length rights ≡ 64) (within : p < m.page_count * number parts) where
-    abbrev Layer : Memory
-    Layer = layer_of m parts rights
-
-    changed : layer_of m parts (set rights p x) ≡ with_right Layer p x
-    changed = let few = few_small m parts sized in marked m (number parts) rights p x (omega arith) within
-
-    pub lowered_settled : (n : Memory) → x ≡ lesser (Layer.right p) r → n ≡ after_prot1 m (p / number parts) r → Settled n parts (set rights p x) (after_prot1 Layer p r)
-    lowered_settled n is did =
-        let k : ℕ = number parts in
-        let allowed : after_prot1 Layer p r ≡ with_right Layer p (lesser (Layer.right p) r) = cond-true _ _ Layer (lt-ltb _ _ within) in
-        let low : LeastIn (after_prot1 m (p / k) r) (after_prot1 Layer p r) k = rw allowed (lowered_least m Layer k p r (some_parts parts) within least) in
-        rw did (settled _ (set rights p x) _ (p / k) _ (changed ∙ ap (with_right Layer p) is ∙ sym allowed) low)
-
-    pub raised_settled : (n : Memory) (k : ℕ) (y : Right) → k ≡ number parts → x ≡ greater (Layer.right p) r → y ≡ fold lesser All (slice_range (set rights p x) (p / k * k) (p / k * k + k)) → n ≡ after_unprot m (p / k) y → Settled n parts (set rights p x) (after_unprot Layer p r)
-    raised_settled n k y counts is found did =
-        let d : ℕ = number parts in
-        let page : p / d < m.page_count = div_below p d m.page_count (some_parts parts) within in
-        let allowed : after_unprot Layer p r ≡ with_right Layer p (greater (Layer.right p) r) = cond-true _ _ Layer (lt-ltb _ _ within) in
-        let here : layer_of m parts (set rights p x) ≡ with_right Layer p (greater (Layer.right p) r) = changed ∙ ap (with_right Layer p) is in
-        let y' : y ≡ lowest (with_right Layer p (greater (Layer.right p) r)).right (p / d * d) d = (rw counts at found) ∙ listed_lowest m parts (set rights p x) (p / d) sized (length-set rights p x ∙ long) page ∙ ap (λ (z : Memory). lowest z.right (p / d * d) d) here in
-        let low : LeastIn (after_unprot m (p / d) y) (after_unprot Layer p r) d = rw (allowed, y') (raised_least m Layer d p r (some_parts parts) within least) in
-        rw (did, counts) (settled _ (set rights p x) _ (p / d) _ (here ∙ sym allowed) low)
+    let by : divisor (opened m) parts ≡ k = cond-true (fits m (number parts)) (number parts) 1 (rw is fit) ∙ is in
+    let layer : layer_of (opened m) parts (replicate 64 All) ≡ split m k = ap (λ d. small_memory (opened m) d (replicate 64 All)) by ∙ small_split (opened m) k few in
+    rw did (record { after = layer; size = refl; count = refl; parts = by; least = λ _. rw (layer, by) (split_least m k) })

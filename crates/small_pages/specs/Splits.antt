@@ -29,6 +29,11 @@ legal_split m k = (k == 2 || k == 4 || k == 8) && fits m k
 abbrev pub Divides : ℕ → Result Parts Refusal → Type 0
 Divides k r = MatchResult r (λ parts. number parts ≡ k) (λ e. (e ≡ Size) × ((k == 2 || k == 4 || k == 8) ≡ false))
 
+-- How many small pages each page of m makes. A layer whose small pages do not fit is never made; 1 only has to say
+-- something there.
+abbrev pub divisor : Memory → Parts → ℕ
+divisor m parts = cond (fits m (number parts)) (number parts) 1
+
 -- Memories
 
 -- n pages at all
@@ -46,10 +51,6 @@ split m k = record { page_size = m.page_size / k; page_count = m.page_count * k;
 -- k pages out of each page of m, with the listed rights
 abbrev pub small_memory : Memory → ℕ → List Right → Memory
 small_memory m k rights = record { page_size = m.page_size / k; page_count = m.page_count * k; word = m.word; right = λ p. cond (nat_lt p (m.page_count * k)) (slice_index_or rights p None) None }
-
--- a layer's memory by its state, over the memory below
-abbrev pub layer_of : Memory → Parts → List Right → Memory
-layer_of m parts rights = small_memory m (number parts) rights
 
 -- Rights
 

@@ -20,8 +20,9 @@ pub enum HostCall {
 impl<H: Host> SmallPages<H> {
     // Carries out a call, whatever it answers.
     fn carry_out_one(&mut self, call: HostCall)
-        ensures after { layer_meaning self.new ≡ after_call (layer_meaning self.old) call }
-        ensures sizes { SameSizes self.old self.new }
+        ensures after { layer_meaning H.meaning self.new ≡ after_call (layer_meaning H.meaning self.old) call }
+        ensures sizes { SameSizes H.meaning self.old self.new }
+        ensures least { Least H.meaning self.old → Least H.meaning self.new }
     {
         match call {
             HostCall::Look(a) => {
@@ -51,9 +52,9 @@ impl<H: Host> SmallPages<H> {
     /// Carries out calls in order, whatever they answer. After any calls of a layer that was made, each page below
     /// has the least right of its small pages.
     pub fn carry_out(&mut self, calls: &[HostCall])
-        ensures after { layer_meaning self.new ≡ after_calls (layer_meaning self.old) calls.now }
-        ensures sizes { SameSizes self.old self.new }
-        ensures least { Least self.new }
+        ensures after { layer_meaning H.meaning self.new ≡ after_calls (layer_meaning H.meaning self.old) calls.now }
+        ensures sizes { SameSizes H.meaning self.old self.new }
+        ensures least { Least H.meaning self.old → Least H.meaning self.new }
     {
         for call in calls {
             self.carry_out_one(*call);

@@ -1,4 +1,4 @@
-ghost use Rattle.std.specs.Prelude.{◌≡◌, ℕ};
+ghost use Rattle.std.specs.Prelude.{◌≡◌, ℕ, ◌<◌};
 ghost use Rattle.memory.specs.Memory.{Memory};
 ghost use Rattle.model.specs.Heap.{register_number, with_register, with_state};
 ghost use Rattle.model.specs.Refusing.{is_running};
@@ -34,36 +34,79 @@ impl Plain {
     }
 
     /// Puts a value into a register.
-    pub fn set_register(&mut self, m: MutatorName, r: RegisterName, held: Held)
+    pub fn set_register(&mut self, m: u32, r: u32, held: Held)
+        requires { (m < 4) × (r < 8) }
         ensures { (x : Memory) → state_of x self.new ≡ with_register (state_of x self.old) m r (held_value held) }
     {
-        let mutator = &mut self.mutators[m.number() as usize];
-        mutator.hold(r.number(), held);
+        let mutator = &mut self.mutators[m as usize];
+        mutator.hold(r, held);
     }
 
     /// Moves a mutator to a state.
-    pub fn set_state(&mut self, m: MutatorName, state: State)
+    pub fn set_state(&mut self, m: u32, state: State)
+        requires { m < 4 }
         ensures { (x : Memory) → state_of x self.new ≡ with_state (state_of x self.old) m state }
     {
-        let mutator = &mut self.mutators[m.number() as usize];
+        let mutator = &mut self.mutators[m as usize];
         mutator.move_to(state);
     }
 
     /// What a register holds.
-    pub fn register(&self, m: MutatorName, r: RegisterName) -> Held
+    pub fn register(&self, m: u32, r: u32) -> Held
+        requires { (m < 4) × (r < 8) }
         ensures { held_value result ≡ register_view self.now.mutators (register_number m r) }
     {
-        self.mutators[m.number() as usize].registers[r.number() as usize]
+        self.mutators[m as usize].registers[r as usize]
     }
 
     /// The object that a register refers to.
-    pub fn reference(&self, m: MutatorName, r: RegisterName) -> Option<ToAddress>
+    pub fn reference(&self, m: u32, r: u32) -> Option<ToAddress>
+        requires { (m < 4) × (r < 8) }
         ensures { Refers (register_view self.now.mutators (register_number m r)) result }
     {
         match self.register(m, r) {
             Held::Reference(a) => Some(a),
             _ => None,
         }
+    }
+
+    /// Whether a mutator runs.
+    pub fn is_running(&self, m: u32) -> bool
+        requires { m < 4 }
+        ensures { result ≡ is_running (state_view self.now.mutators m) }
+    {
+        self.mutators[m as usize].runs()
+    }
+}
+
+// The same, of a mutator and a register by name: there nothing is asked.
+impl Plain {
+    /// Puts a value into a register.
+    pub fn hold(&mut self, m: MutatorName, r: RegisterName, held: Held)
+        ensures { (x : Memory) → state_of x self.new ≡ with_register (state_of x self.old) m r (held_value held) }
+    {
+        self.set_register(m.number(), r.number(), held);
+    }
+
+    /// Moves a mutator to a state.
+    pub fn move_to(&mut self, m: MutatorName, state: State)
+        ensures { (x : Memory) → state_of x self.new ≡ with_state (state_of x self.old) m state }
+    {
+        self.set_state(m.number(), state);
+    }
+
+    /// What a register holds.
+    pub fn held(&self, m: MutatorName, r: RegisterName) -> Held
+        ensures { held_value result ≡ register_view self.now.mutators (register_number m r) }
+    {
+        self.register(m.number(), r.number())
+    }
+
+    /// The object that a register refers to.
+    pub fn object(&self, m: MutatorName, r: RegisterName) -> Option<ToAddress>
+        ensures { Refers (register_view self.now.mutators (register_number m r)) result }
+    {
+        self.reference(m.number(), r.number())
     }
 
     /// What a mutator does.
@@ -74,9 +117,9 @@ impl Plain {
     }
 
     /// Whether a mutator runs.
-    pub fn is_running(&self, m: MutatorName) -> bool
+    pub fn runs(&self, m: MutatorName) -> bool
         ensures { result ≡ is_running (state_view self.now.mutators m) }
     {
-        self.mutators[m.number() as usize].runs()
+        self.is_running(m.number())
     }
 }

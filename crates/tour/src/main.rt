@@ -55,3 +55,14 @@ fn main(rt: HostRuntime) -> anyhow::Result<()> {
     )?;
     show_heaps(&rt, &MutatorLists)
 }
+
+#[cfg(test)]
+mod tests {
+    use super::MutatorLists;
+    use tariff::show_heaps;
+
+    #[test]
+    fn heaps_are_shown(rt: HostRuntime) {
+        assert!(rt; show_heaps(&rt, &MutatorLists).is_ok());
+    }
+}

@@ -31,7 +31,7 @@ behind xs ys n long j =
           ∙ sym (get_or-append_right ys (drop n xs) n j 0 long h ∙ get_or-drop n xs (j - n) 0 ∙ ap (λ k. get_or xs k 0) at)
     ]
 
-prefix : (L : Rules) (h g : Model) (a : Answer) (c : ℕ → Call) (n : ℕ) (xs ys : List ℕ) → n ≤ length xs → length ys ≡ n → Writes L h (take n xs) (c (length (take n xs))) g ys a → call L (with_buffer h xs) (c n) ≡ outcome (with_buffer g (ys ++ drop n xs)) a
+pub prefix : (L : Rules) (h g : Model) (a : Answer) (c : ℕ → Call) (n : ℕ) (xs ys : List ℕ) → n ≤ length xs → length ys ≡ n → Writes L h (take n xs) (c (length (take n xs))) g ys a → call L (with_buffer h xs) (c n) ≡ outcome (with_buffer g (ys ++ drop n xs)) a
 prefix L h g a c n xs ys few long did =
     sym (λ i. call L (record { heap = h; buffer = λ j. before xs n few j i }) (c (length-take-le n xs few i)))
     ∙ did (image_view xs)

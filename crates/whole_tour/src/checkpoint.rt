@@ -88,34 +88,36 @@ fn write_again<H: Host, L: Layout>(story: &mut Story<H, L>) -> Result<Asked, All
     ask(story)
 }
 
-/// The story of an image on a heap over a host, and that of a heap restored from the image on another host.
+// The story of an image on a heap over a host.
+fn told_on<H: Host + Drop, L: Layout + Drop>(
+    alloc: Global,
+    host: H,
+    layout: L,
+) -> anyhow::Result<Told<Asked>> {
+    let mut story = Story::on(alloc, host, layout)?;
+    let asked = checkpoint(&mut story);
+    Ok(story.end(asked)?)
+}
+
+// The story of an image on a heap over a host, and that of a heap restored from the image on another host.
 #[derive(Drop)]
-pub struct RoundTrip {
-    /// The number of the layout.
-    layout: u32,
-    pub told: Told<Asked>,
+struct RoundTrip {
+    told: Told<Asked>,
     again: Told<Asked>,
 }
 
 impl RoundTrip {
-    /// Carries out both stories.
-    pub fn make<H: Host + Drop, G: Host + Drop, L: Layout + Copy>(
+    // Restores the image of the first story on another host, and carries out the second.
+    fn make<H: Host + Drop, L: Layout + Drop>(
         alloc: Global,
-        host: H,
-        other: G,
+        told: Told<Asked>,
+        other: H,
         layout: L,
     ) -> anyhow::Result<RoundTrip> {
-        let mut story = Story::on(alloc, host, layout)?;
-        let asked = checkpoint(&mut story);
-        let told = story.end(asked)?;
         let mut story = Story::from_image(alloc, other, layout, told.buffer.as_slice())?;
         let asked = write_again(&mut story);
         let again = story.end(asked)?;
-        Ok(RoundTrip {
-            layout: layout.number(),
-            told,
-            again,
-        })
+        Ok(RoundTrip { told, again })
     }
 
     // Whether the restored heap answers as the first did before the image.
@@ -127,29 +129,45 @@ impl RoundTrip {
     fn writes_again(&self) -> bool {
         self.told.buffer == self.again.buffer
     }
+}
 
-    /// Prints both stories.
-    pub fn show(&self, rt: &impl Print) -> anyhow::Result<()> {
-        show_lines(rt, self.told.lines.as_slice())?;
-        println!(rt; "the image restored on another host")?;
-        show_lines(rt, self.again.lines.as_slice())?;
-        let answers = self.answers_again();
-        let image = self.writes_again();
-        println!(rt; "  the answers of before the image: {answers}")?;
-        println!(rt; "  the same image written again: {image}")?;
-        Ok(())
-    }
+/// Carries out the story of an image on a heap over a host, restores the image on another host, and prints both. The first story.
+pub fn show_trip<H: Host + Drop, G: Host + Drop, L: Layout + Copy>(
+    rt: &(impl Print + AllocGlobal),
+    host: H,
+    other: G,
+    layout: L,
+) -> anyhow::Result<Told<Asked>> {
+    let told = told_on(rt.alloc(), host, layout)?;
+    show_lines(rt, told.lines.as_slice())?;
+    println!(rt; "the image restored on another host")?;
+    let trip = RoundTrip::make(rt.alloc(), told, other, layout)?;
+    show_lines(rt, trip.again.lines.as_slice())?;
+    let answers = trip.answers_again();
+    let image = trip.writes_again();
+    println!(rt; "  the answers of before the image: {answers}")?;
+    println!(rt; "  the same image written again: {image}")?;
+    Ok(trip.told)
+}
 
-    /// Says whether the answers are the given ones, and the restored heap writes its image again.
-    pub fn compare(&self, rt: &impl Print, name: &str, expected: &[Line]) -> anyhow::Result<()> {
-        let layout = self.layout;
-        let answers = self.told.lines.as_slice() == expected && self.answers_again();
-        let image = self.writes_again();
-        println!(rt;
-            "  {name}, layout {layout}: the same answers: {answers}, the same image again: {image}"
-        )?;
-        Ok(())
-    }
+/// Carries out both stories, and says whether the answers are the given ones, and the restored heap writes its image again.
+pub fn compare_trip<H: Host + Drop, G: Host + Drop, L: Layout + Copy>(
+    rt: &(impl Print + AllocGlobal),
+    name: &str,
+    host: H,
+    other: G,
+    layout: L,
+    expected: &[Line],
+) -> anyhow::Result<()> {
+    let number = layout.number();
+    let told = told_on(rt.alloc(), host, layout)?;
+    let trip = RoundTrip::make(rt.alloc(), told, other, layout)?;
+    let answers = trip.told.lines.as_slice() == expected && trip.answers_again();
+    let image = trip.writes_again();
+    println!(rt;
+        "  {name}, layout {number}: the same answers: {answers}, the same image again: {image}"
+    )?;
+    Ok(())
 }
 
 // A copy of an image with one word altered.

@@ -1,4 +1,4 @@
-use super::checkpoint::{RoundTrip, show_small_image, show_spoilt};
+use super::checkpoint::{compare_trip, show_small_image, show_spoilt, show_trip};
 use super::collection::{compare_collection, show_collection};
 use layouts::{Split, Tagged};
 use memory::Host;
@@ -13,8 +13,10 @@ fn compare_both<H: Host + Drop, F: Fn() -> anyhow::Result<H>>(
 ) -> anyhow::Result<()>
     requires { F.IsAlwaysCallable host }
 {
-    compare_collection(rt, name, host()?, Tagged, expected)?;
-    compare_collection(rt, name, host()?, Split, expected)
+    let first = host()?;
+    let second = host()?;
+    compare_collection(rt, name, first, Tagged, expected)?;
+    compare_collection(rt, name, second, Split, expected)
 }
 
 /// A collection on heaps of a size over every kind of host, in both layouts.
@@ -60,20 +62,34 @@ pub fn show_collections(
 pub fn show_images(rt: &(impl Print + AllocGlobal)) -> anyhow::Result<()> {
     let alloc = rt.alloc();
     println!(rt; "an image of a heap over the check host, 16 pages of 16 words, layout 1")?;
-    let first = RoundTrip::make(alloc, check_host(alloc, 16, 16)?, pile(alloc, 16)?, Tagged)?;
-    first.show(rt)?;
-    let lines = first.told.lines.as_slice();
-    let (host, other) = (table_host(alloc, 16, 16)?, small_pages(alloc, 16, 16)?);
-    let trip = RoundTrip::make(alloc, host, other, Split)?;
-    trip.compare(rt, "table host to small pages", lines)?;
-    let (host, other) = (small_pages(alloc, 16, 16)?, check_host(alloc, 16, 16)?);
-    let trip = RoundTrip::make(alloc, host, other, Tagged)?;
-    trip.compare(rt, "small pages to check host", lines)?;
-    let (host, other) = (pile(alloc, 16)?, table_host(alloc, 16, 16)?);
-    let trip = RoundTrip::make(alloc, host, other, Split)?;
-    trip.compare(rt, "a pile of small pages to table host", lines)?;
+    let told = show_trip(rt, check_host(alloc, 16, 16)?, pile(alloc, 16)?, Tagged)?;
+    let lines = told.lines.as_slice();
+    compare_trip(
+        rt,
+        "table host to small pages",
+        table_host(alloc, 16, 16)?,
+        small_pages(alloc, 16, 16)?,
+        Split,
+        lines,
+    )?;
+    compare_trip(
+        rt,
+        "small pages to check host",
+        small_pages(alloc, 16, 16)?,
+        check_host(alloc, 16, 16)?,
+        Tagged,
+        lines,
+    )?;
+    compare_trip(
+        rt,
+        "a pile of small pages to table host",
+        pile(alloc, 16)?,
+        table_host(alloc, 16, 16)?,
+        Split,
+        lines,
+    )?;
     println!(rt; "images that are not restored")?;
-    show_spoilt(rt, table_host(alloc, 16, 16)?, first.told.buffer.as_slice())?;
+    show_spoilt(rt, table_host(alloc, 16, 16)?, told.buffer.as_slice())?;
     println!(rt; "the words other than 0 of an image of 86 words, layout 1")?;
     show_small_image(rt, check_host(alloc, 2, 16)?, Tagged)?;
     println!(rt; "the same in layout 2")?;

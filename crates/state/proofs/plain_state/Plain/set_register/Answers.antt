@@ -8,12 +8,11 @@ use Rattle.state.proofs.plain_state.Plain.set_register.Goals as goal
 pub returns : goal.returns
 returns c = λ x.
     let p = c.args.self.now in
-    let m = c.number.result in
-    let r = c.number-2.result in
+    let m = c.args.m in
+    let r = c.args.r in
     let old = get_or p.mutators m no_such in
     let rs = set old.registers r c.args.held in
-    rw (← c.number.ensures.value, ← c.number-2.ensures.value)
-    (ap (λ e. state_of x (with_mutators p (set p.mutators m e))) (c.hold.ensures.after ∙ cond-true _ _ old (lt-ltb r 8 c.number-2.ensures.few))
+    ap (λ e. state_of x (with_mutators p (set p.mutators m e))) (c.hold.ensures.after ∙ cond-true _ _ old (lt-ltb r 8 c.requires.1))
     ∙ mutators_seen x p (with_mutator p.mutators m rs old.state) (changed (register_view p.mutators) (m * 8 + r) (held_value c.args.held)) (state_view p.mutators)
-    (register_changed p.mutators m (search rules) r c.args.held old.state (omega (arith, c.hold.ensures.eight, c.number-2.ensures.few)) c.number-2.ensures.few)
-    (states_kept p.mutators m (search rules) rs))
+    (register_changed p.mutators m (search rules) r c.args.held old.state (omega (arith, c.hold.ensures.eight, c.requires.1)) c.requires.1)
+    (states_kept p.mutators m (search rules) rs)
