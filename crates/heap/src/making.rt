@@ -24,6 +24,8 @@ fn fresh_plain(new_start: u32) -> Plain
 }
 
 // Sets every word to 0, the first half to all and the second to none.
+// Inlined into `make`, where the host is a local: there the loop over a check host's words becomes wide stores.
+#[inline(always)]
 fn clear<H: Host>(host: &mut H)
     ensures { H.Host.meaning host.new ≡ cleared (H.Host.meaning host.old) }
 {
