@@ -132,6 +132,8 @@ impl From<MutatorCall> for Call {
 }
 
 /// Carries out one call.
+// Inlined, so that a list of all calls tells its calls apart once, and not a second time in here.
+#[inline(always)]
 pub fn carry_out<H: Host, L: Layout>(heap: &mut Heap<H, L>, call: MutatorCall) -> Answer
     ensures does { Does L.Layout.rules (view H.Host.meaning heap.old) (as_call call) (view H.Host.meaning heap.new) result }
     ensures layout { heap.new.layout ≡ heap.old.layout }
